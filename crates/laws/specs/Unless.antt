@@ -1,0 +1,21 @@
+-- Checks in a row, each with its refusal: `unless t refusal rest` is the rest where t holds, and the refusal where it doesn't.
+--   unless                    the choice; it is shut, so that `search` sees it
+--   unless-pass, unless-stop  its two ways, where r is what a call answered of the test t
+use mathlib.Core.Path.{_≡_}
+use mathlib.Core.Bool.{Bool, true, false}
+
+module _ {A : Type 0} where
+  unfoldable pub unless : Bool → A → A → A
+  unless true refusal rest = rest
+  unless false refusal rest = refusal
+
+module _ {A : Type 0} (r t : Bool) (z refusal rest : A) where
+  pub unless-pass : r ≡ t → r ≡ true → z ≡ rest → z ≡ unless t refusal rest
+  unfolding unless
+  unless-pass e h k = rw (← e, h) k
+
+  pub unless-stop : r ≡ t → r ≡ false → z ≡ refusal → z ≡ unless t refusal rest
+  unfolding unless
+  unless-stop e h k = rw (← e, h) k
+
+pub ruleset checks = (unless-pass, unless-stop)

@@ -1,0 +1,1 @@
+// General laws, in specs/. This crate has no code.

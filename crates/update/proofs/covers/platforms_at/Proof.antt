@@ -1,0 +1,16 @@
+-- `update::covers::platforms_at` meets its contract: each pair lies inside.
+use borrow.Author.Needs.{needs}
+use Rattle.update.specs.Covers.{platformsAt, flagsAt}
+use Rattle.update.specs.PairLaws.{pairing}
+use Rattle.update.proofs.covers.platforms_at.Statement.{statement}
+use Rattle.update.proofs.covers.platforms_at.Tie as tie
+
+pub platforms-at-spec : {M : Type 1} → statement M
+unfolding platformsAt flagsAt
+platforms-at-spec =
+    tie.close
+    (tie.spec
+    (λ c κs. search pairing)
+    (λ c κs. search pairing)
+    (search needs)
+    (λ c. cc))

@@ -1,0 +1,14 @@
+-- `update::platforms::header_platforms` meets its contract: pair 0 is the header's.
+use borrow.Author.Needs.{needs}
+use Rattle.update.specs.Covers.{platformsAt, flagsAt, flagsPos}
+use Rattle.update.proofs.platforms.header_platforms.Statement.{statement}
+use Rattle.update.proofs.platforms.header_platforms.Tie as tie
+
+pub header-platforms-spec : {M : Type 1} → statement M
+unfolding platformsAt flagsAt flagsPos
+header-platforms-spec =
+    tie.close
+    (tie.spec
+    (search needs)
+    (search needs)
+    (λ c. cc))

@@ -1,0 +1,15 @@
+-- `update::sizes::total_size` meets its contract, by those of its calls.
+use borrow.Author.Needs.{needs}
+use Rattle.update.specs.Fields.{totalSize}
+use Rattle.update.proofs.sizes.total_size.Statement.{statement}
+use Rattle.update.proofs.sizes.total_size.Tie as tie
+
+pub total-size-spec : {M : Type 1} → statement M
+unfolding totalSize
+total-size-spec =
+    tie.close
+    (tie.spec
+    (search needs)
+    (search needs)
+    (search needs)
+    (λ c. cc))

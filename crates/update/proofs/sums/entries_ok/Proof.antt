@@ -1,0 +1,31 @@
+-- `update::sums::entries_ok` meets its contract. The loop's invariant: each entry passed has the right sum.
+use borrow.Author.Needs.{needs}
+use mathlib.Core.Path.{_≡_}
+use mathlib.Core.Bool.{true}
+use Prim.Native.Nat.{_≤_, _-_}
+use Rattle.laws.specs.Below.{allBelow}
+use Rattle.laws.specs.Loops.{each}
+use Rattle.update.specs.Sums.{entryAt, entryOk}
+use Rattle.update.proofs.sums.entries_ok.Statement.{statement}
+use Rattle.update.proofs.sums.entries_ok.Tie as tie
+
+abbrev Inv-loop : tie.InvT-loop
+Inv-loop s d n want k₀ k = (k ≤ n) × (allBelow k (entryOk s d want) ≡ true)
+
+abbrev μ-loop : tie.MeasureT-loop
+μ-loop s d n want k₀ k = n - k
+
+pub entries-ok-spec : {M : Type 1} → statement M
+unfolding entryAt
+entries-ok-spec =
+    tie.close
+    (tie.spec
+    Inv-loop
+    μ-loop
+    (λ c. search (needs, each))
+    (λ c κs. search (needs, each))
+    (λ c. search (needs, each))
+    (λ c. search (needs, each))
+    (λ c. search (needs, each))
+    (λ c. search (needs, each))
+    (λ c. search (needs, each)))

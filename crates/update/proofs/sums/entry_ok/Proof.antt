@@ -1,0 +1,22 @@
+-- `update::sums::entry_ok` meets its contract, by that of `sum_of`.
+use borrow.Author.Needs.{needs}
+use Rattle.update.specs.Sums.{entryOk, entryAt}
+use Rattle.update.proofs.sums.entry_ok.Statement.{statement}
+use Rattle.update.proofs.sums.entry_ok.Tie as tie
+
+pub entry-ok-spec : {M : Type 1} → statement M
+unfolding entryOk entryAt
+entry-ok-spec =
+    tie.close
+    (tie.spec
+    (search needs)
+    (search needs)
+    (search needs)
+    (search needs)
+    (search needs)
+    (search needs)
+    (search needs)
+    (search needs)
+    (search needs)
+    (search needs)
+    (λ c. cc))

@@ -1,0 +1,13 @@
+-- One update (document 01, "The update"): definitions in the document's order, then the laws that the code and the layers above use.
+pub mod Fields
+pub mod Sizes
+pub mod Sums
+pub mod Verdict
+pub mod Covers
+pub mod Shares
+pub mod Platforms
+pub mod SizeLaws
+pub mod SumLaws
+pub mod PairLaws
+pub mod ShareLaws
+pub mod VerdictLaws

@@ -1,0 +1,40 @@
+-- The three kinds of sums, each modulo 2^32 (document 01, "The update").
+--   sumOf          signature + flags + checksum
+--   headerSum      that of the header
+--   entryAt        where entry k begins, behind d data bytes
+--   entryOk        the sum of entry k is `want`
+--   table          the table's bytes
+--   sumsOk         all sums are right
+use Prim.Native.Nat.{ℕ, _+_, _*_, _-_, _%_, _^_}
+use mathlib.Core.Bool.{Bool, _&&_}
+use mathlib.Core.List.{List}
+use lib.ListN.{take, drop}
+use lib.Dec.{eqb}
+use Rattle.laws.specs.Below.{allBelow}
+use Rattle.dwords.specs.Dword.{dword}
+use Rattle.dwords.specs.Sum.{dwordSum}
+use Rattle.update.specs.Fields.{signature, flags, checksum, dataSize, totalSize}
+use Rattle.update.specs.Sizes.{entryCount}
+
+unfoldable pub sumOf : ℕ → ℕ → ℕ → ℕ
+sumOf signature flags checksum = (signature + flags + checksum) % 2 ^ 32
+
+unfoldable pub headerSum : List ℕ → ℕ
+headerSum s = sumOf (signature s) (flags s) (checksum s)
+
+-- the table begins at 48 + D with 20 bytes of its own: count, checksum, 12 reserved bytes
+unfoldable pub entryAt : ℕ → ℕ → ℕ
+entryAt d k = 48 + d + 20 + 12 * k
+
+unfoldable pub entryOk : List ℕ → ℕ → ℕ → ℕ → Bool
+entryOk s d want k = eqb (sumOf (dword s (entryAt d k)) (dword s (entryAt d k + 4)) (dword s (entryAt d k + 8))) want
+
+-- what lies between the data and the end: the table's 20 + 12 n bytes, or nothing
+unfoldable pub table : List ℕ → List ℕ
+table s = take (totalSize s - (48 + dataSize s)) (drop (48 + dataSize s) s)
+
+-- All dwords of the T bytes sum to 0. The table's bytes sum to 0. For each entry, signature + flags + checksum equals the header's.
+unfoldable pub sumsOk : List ℕ → Bool
+sumsOk s =
+    eqb (dwordSum (take (totalSize s) s)) 0
+    && (eqb (dwordSum (table s)) 0 && allBelow (entryCount s) (entryOk s (dataSize s) (headerSum s)))

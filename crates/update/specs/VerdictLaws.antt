@@ -1,0 +1,74 @@
+-- Laws of the verdict: the checks as the code takes them, and what a good verdict says.
+--   judging        a return at each test of checks 2 and 3, as `search` takes it
+--   Judged         what a good verdict says of the bytes
+--   judged         the record from the verdict
+use Prim.Native.Nat.{ℕ, _<_, _≤_}
+use mathlib.Core.Path.{_≡_, refl, sym, _∙_}
+use mathlib.Core.Bool.{Bool, true, false, _&&_}
+use mathlib.Core.List.{List}
+use native.Mathlib.Omega.{arith}
+use lib.ListN.{length}
+use lib.Dec.{leb, eqb}
+use borrow.Author.Tests.{eq-eqb, ne-eqb, le-leb, lt-leb}
+use Rattle.laws.specs.Bools.{and-false-r}
+use Rattle.laws.specs.Unless.{unless}
+use Rattle.update.specs.Fields.{version, loaderVersion, dataSize, totalSize}
+use Rattle.update.specs.Sizes.{sizesOk, tableCount, entryCount, blocksOf}
+use Rattle.update.specs.Sums.{sumsOk}
+use Rattle.update.specs.Verdict.{headerOk, sizesFit, verdict}
+use Rattle.update.specs.declared.verdict.Verdict.{Verdict}
+use Rattle.update.specs.declared.verdict.Verdict.the-variants.{Good, BadHeader, BadSum}
+
+module _ (s : List ℕ) where
+  pub header-short : length s < 48 → false ≡ headerOk s
+  unfolding headerOk
+  header-short l = rw (lt-leb 48 (length s) l)
+
+  module _ (v : ℕ) (e : v ≡ version s) where
+    pub header-version : (v ≡ 1 → ⊥) → false ≡ headerOk s
+    unfolding headerOk
+    header-version h = rw (ne-eqb (version s) 1 (λ q. h (e ∙ q)), and-false-r (leb 48 (length s)))
+
+    pub header-loader : (l : ℕ) → l ≡ loaderVersion s → 48 ≤ length s → v ≡ 1 → eqb l 1 ≡ headerOk s
+    unfolding headerOk
+    header-loader l f h k = rw (f, le-leb 48 (length s) h, eq-eqb (version s) 1 (sym e ∙ k))
+
+  -- r is what the size rule answered
+  module _ (d t n : ℕ) (r : Bool) (e : d ≡ dataSize s) (f : t ≡ totalSize s) (g : n ≡ tableCount s) (h : r ≡ sizesOk d t n) where
+    pub sizes-no : r ≡ false → false ≡ sizesFit s
+    unfolding sizesFit
+    sizes-no k = rw (← e, ← f, ← g, ← h, k)
+
+    pub sizes-yes : r ≡ true → leb t (length s) ≡ sizesFit s
+    unfolding sizesFit
+    sizes-yes k = rw (← e, ← f, ← g, ← h, k)
+
+pub ruleset judging = (header-short, header-version, header-loader, sizes-no, sizes-yes)
+
+-- the four numbers, read before
+pub good-is : (s : List ℕ) (t d n k : ℕ) → t ≡ totalSize s → d ≡ dataSize s → n ≡ entryCount s → k ≡ blocksOf t → Good t d n k ≡ Good (totalSize s) (dataSize s) (entryCount s) (blocksOf (totalSize s))
+good-is s t d n k e f g h = rw (h, e, f, g)
+
+pub record Judged (s : List ℕ) (t d n k : ℕ) : Type 0 where
+  pub header : headerOk s ≡ true
+  pub sizes : sizesFit s ≡ true
+  pub sums : sumsOk s ≡ true
+  pub total : t ≡ totalSize s
+  pub «data» : d ≡ dataSize s
+  pub entries : n ≡ entryCount s
+  pub blocks : k ≡ blocksOf t
+
+pub judged : (s : List ℕ) (t d n k : ℕ) → verdict s ≡ Good t d n k → Judged s t d n k
+unfolding verdict unless
+judged s t d n k e = go (headerOk s) refl (sizesFit s) refl (sumsOk s) refl e
+  where
+    go : (a : Bool) → headerOk s ≡ a → (b : Bool) → sizesFit s ≡ b → (c : Bool) → sumsOk s ≡ c
+        → unless a BadHeader (unless b BadHeader (unless c BadSum (Good (totalSize s) (dataSize s) (entryCount s) (blocksOf (totalSize s))))) ≡ Good t d n k → Judged s t d n k
+    go true p true q true r e = record { header = p; sizes = q; sums = r; total = (cc); «data» = (cc); entries = (cc); blocks = (cc) }
+    go true p true q false r e = absurd (let z : _≡_ {A = ℕ} 0 1 = cc in omega arith)
+    go true p false q c r e = absurd (let z : _≡_ {A = ℕ} 0 1 = cc in omega arith)
+    go false p b q c r e = absurd (let z : _≡_ {A = ℕ} 0 1 = cc in omega arith)
+
+pub good-made : (s : List ℕ) → headerOk s ≡ true → sizesFit s ≡ true → sumsOk s ≡ true → verdict s ≡ Good (totalSize s) (dataSize s) (entryCount s) (blocksOf (totalSize s))
+unfolding verdict unless
+good-made s h k o = rw (h, k, o)
