@@ -11,3 +11,4 @@ pub mod SumLaws
 pub mod PairLaws
 pub mod ShareLaws
 pub mod VerdictLaws
+pub mod Local

@@ -1,0 +1,27 @@
+-- `cases::make::put` is safe: a write keeps the length.
+use native.Mathlib.Omega.{arith}
+use lib.ListN.{length-set}
+use borrow.Author.Needs.{needs}
+use Rattle.cases.proofs.make.put.Statement.{statement}
+use Rattle.cases.proofs.make.put.Tie as tie
+
+pub put-spec : {M : Type 1} → statement M
+put-spec =
+    tie.close
+    (tie.spec
+    (search needs)
+    (search needs)
+    (search needs)
+    (search needs)
+    (search needs)
+    (λ c. simp length-set (omega arith))
+    (search needs)
+    (search needs)
+    (λ c. simp length-set (omega arith))
+    (search needs)
+    (search needs)
+    (λ c. simp length-set (omega arith))
+    (search needs)
+    (search needs)
+    (search needs)
+    (search needs))

@@ -1,0 +1,8 @@
+// Runs the cases of document 01 and writes a line for each.
+mod make;
+mod say;
+mod updates;
+
+fn main() {
+    updates::run();
+}
