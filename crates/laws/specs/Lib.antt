@@ -7,3 +7,4 @@ pub mod Unless
 pub mod Tests
 pub mod LowByte
 pub mod Same
+pub mod Orders

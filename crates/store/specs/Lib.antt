@@ -1,0 +1,12 @@
+-- A store (document 01, "The store"): definitions, then the laws that the code and the layers above use.
+pub mod Blocks
+pub mod Slot
+pub mod Scan
+pub mod Valid
+pub mod SlotLaws
+pub mod BlockLaws
+pub mod ScanLaws
+pub mod ClashLaws
+pub mod StoreLaws
+pub mod LayoutLaws
+pub mod ValidLaws

@@ -1,0 +1,40 @@
+// Whether two held updates cover a common processor.
+ghost use mathlib.Core.Path.{_≡_};
+ghost use Prim.Native.Nat.{_≤_};
+ghost use Rattle.store.specs.Scan.{clash};
+use crate::blocks;
+use update::covers;
+use update::shares;
+use update::sizes;
+
+// Do two of the updates that begin at the first `count` blocks of `starts` cover a common processor? The sizes of each are read once.
+pub fn clash(s: &[u8], starts: [u32; 32], count: usize) -> bool
+    requires { ⌜ count ≤ 32 ⌝ }
+    ensures { λ r. ⌜ r ≡ clash (now (s .entry)) starts count ⌝ }
+{
+    if count < 2 {
+        return false;
+    }
+    let mut data = [0u32; 32];
+    let mut pairs = [0u32; 32];
+    let mut found = false;
+    let mut i: usize = 0;
+    'scan: while i < count {
+        let a = blocks::from_block(s, starts[i]);
+        let d = sizes::data_size(a);
+        let m = covers::pair_count(a);
+        data[i] = d;
+        pairs[i] = m;
+        let mut j: usize = 0;
+        while j < i {
+            let b = blocks::from_block(s, starts[j]);
+            if shares::shares_with(a, d, m, b, data[j], pairs[j]) {
+                found = true;
+                break 'scan;
+            }
+            j += 1;
+        }
+        i += 1;
+    }
+    found
+}

@@ -1,0 +1,50 @@
+// The directory of a store: the held updates in the order of their first blocks.
+ghost use mathlib.Core.Path.{_≡_};
+ghost use Rattle.store.specs.Scan.{badStore, directory};
+use crate::blocks;
+use crate::clash;
+use crate::scan;
+
+pub struct Directory {
+    // the store is valid
+    pub ok: bool,
+    // how many updates it holds
+    pub count: usize,
+    // the first block of each, and how many blocks each has
+    pub starts: [u32; 32],
+    pub sizes: [u32; 32],
+}
+
+// No updates: the store is bad.
+pub fn bad_store() -> Directory
+    ensures { λ r. ⌜ r ≡ badStore ⌝ }
+{
+    Directory {
+        ok: false,
+        count: 0,
+        starts: [0; 32],
+        sizes: [0; 32],
+    }
+}
+
+// Reads a store.
+pub fn read_store(s: &[u8]) -> Directory
+    ensures { λ r. ⌜ r ≡ directory (now (s .entry)) ⌝ }
+{
+    if blocks::length_ok(s.len()) {
+        let d = scan::scan(s, s.len() / 2048);
+        let ok = d.ok;
+        if ok {
+            let starts = d.starts;
+            if clash::clash(s, starts, d.count) {
+                bad_store()
+            } else {
+                d
+            }
+        } else {
+            bad_store()
+        }
+    } else {
+        bad_store()
+    }
+}

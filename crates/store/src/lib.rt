@@ -1,0 +1,7 @@
+// A store: blocks of 2,048 bytes, what stands at each, the directory of held updates, and whether the store is valid.
+// Every public function takes any bytes, of any length.
+pub mod blocks;
+mod clash;
+pub mod directory;
+mod scan;
+pub mod slot;
