@@ -1,7 +1,8 @@
 -- How many numbers below n pass, and the first that does.
 --   countBelow    how many
 --   firstBelow    the first, or n where none passes
---   first-passes, first-least, first-none    what `firstBelow` says
+--   First, first-is            what the first is
+--   first-found, first-none    it, from a scan
 use Prim.Native.Nat.{ℕ, zero, suc, _+_, _<_, _≤_}
 use mathlib.Core.Path.{_≡_, refl, sym, _∙_}
 use mathlib.Core.Bool.{Bool, true, false, cond, true≢false}
@@ -9,8 +10,9 @@ use mathlib.Core.Logic.{⊎-elim}
 use native.Mathlib.Nat.{eq-or-lt-of-le, le-of-suc-le-suc, not-suc-le-zero}
 use native.Mathlib.Omega.{arith}
 use lib.Dec.{ltb}
-use borrow.Author.Tests.{ltb-true, ltb-false, lt-ltb, le-ltb}
-use Rattle.laws.specs.Bools.{no-true}
+use borrow.Author.Tests.{ltb-true, ltb-false}
+use Rattle.laws.specs.Below.{anyBelow, any-fails}
+use Rattle.laws.specs.Orders.{le-or-lt}
 
 unfoldable pub countBelow : ℕ → (ℕ → Bool) → ℕ
 countBelow zero p = 0
@@ -43,3 +45,18 @@ first-is (suc n) p = go (ltb (firstBelow n p) n) refl (p n) refl (first-is n p)
           before = λ k l. ⊎-elim (λ (z : k ≡ n). rw z q) (λ m. f .before k (omega arith)) (eq-or-lt-of-le (le-of-suc-le-suc l));
           passes = λ l. absurd (let v : ⊥ = omega arith in v);
         }
+
+-- the first, found by a scan that has passed the numbers below i
+pub first-found : (n i : ℕ) (p : ℕ → Bool) → anyBelow i p ≡ false → i < n → p i ≡ true → firstBelow n p ≡ i
+first-found n i p h l e =
+    let f = first-is n p in
+    ⊎-elim
+    (λ (a : firstBelow n p ≤ i).
+    ⊎-elim (λ q. q) (λ (q : firstBelow n p < i). absurd (true≢false (sym (f .passes (omega arith)) ∙ any-fails p i (firstBelow n p) h q))) (eq-or-lt-of-le a))
+    (λ (a : i < firstBelow n p). absurd (true≢false (sym e ∙ f .before i a)))
+    (le-or-lt (firstBelow n p) i)
+
+pub first-none : (n : ℕ) (p : ℕ → Bool) → anyBelow n p ≡ false → firstBelow n p ≡ n
+first-none n p h =
+    let f = first-is n p in
+    ⊎-elim (λ q. q) (λ (q : firstBelow n p < n). absurd (true≢false (sym (f .passes q) ∙ any-fails p n (firstBelow n p) h q))) (eq-or-lt-of-le (f .within))

@@ -2,6 +2,7 @@
 pub mod Blocks
 pub mod Slot
 pub mod Scan
+pub mod Kind
 pub mod Valid
 pub mod SlotLaws
 pub mod BlockLaws
@@ -10,3 +11,4 @@ pub mod ClashLaws
 pub mod StoreLaws
 pub mod LayoutLaws
 pub mod ValidLaws
+pub mod DirectoryLaws

@@ -3,5 +3,6 @@
 pub mod blocks;
 mod clash;
 pub mod directory;
+pub mod kind;
 mod scan;
 pub mod slot;

@@ -1,0 +1,34 @@
+-- `store::kind::block_kind` meets its contract. The loop's invariant: no entry passed has the block.
+use mathlib.Core.Path.{_≡_}
+use mathlib.Core.Bool.{false}
+use Prim.Native.Nat.{_≤_, _-_}
+use borrow.Author.Needs.{needs}
+use Rattle.laws.specs.Below.{anyBelow}
+use Rattle.store.specs.Kind.{ownsAt, finding}
+use Rattle.store.proofs.kind.block_kind.Statement.{statement}
+use Rattle.store.proofs.kind.block_kind.Tie as tie
+
+abbrev Inv-loop : tie.InvT-loop
+Inv-loop b d i₀ i = (i ≤ d .count) × (anyBelow i (ownsAt d b) ≡ false)
+
+abbrev μ-loop : tie.MeasureT-loop
+μ-loop b d i₀ i = d .count - i
+
+pub block-kind-spec : {M : Type 1} → statement M
+block-kind-spec =
+    tie.close
+    (tie.spec
+    Inv-loop
+    μ-loop
+    (λ c. search (needs, finding))
+    (λ c. search needs)
+    (λ c. search needs)
+    (λ c. search needs)
+    (λ c. search needs)
+    (λ c κs. search needs)
+    (λ c κs. search needs)
+    (λ c. search (needs, finding))
+    (λ c. search needs)
+    (λ c. search needs)
+    (λ c. search (needs, finding))
+    (λ c. search (needs, finding)))
