@@ -1,62 +1,70 @@
--- How many numbers below n pass, and the first that does.
---   countBelow    how many
---   firstBelow    the first, or n where none passes
---   First, first-is            what the first is
---   first-found, first-none    it, from a scan
+-- How many numbers below n pass a test.
+--   countBelow               how many
+--   count-mono, count-cong   who passes one test passes the other; the two tests are the same
+--   either, second           to pass one of two tests, and to pass the second alone
+--   count-split              those that pass one of two: those that pass the first, and those that pass the second alone
+--   counting                 a loop that counts, as `search` takes it
 use Prim.Native.Nat.{ℕ, zero, suc, _+_, _<_, _≤_}
-use mathlib.Core.Path.{_≡_, refl, sym, _∙_}
-use mathlib.Core.Bool.{Bool, true, false, cond, true≢false}
-use mathlib.Core.Logic.{⊎-elim}
-use native.Mathlib.Nat.{eq-or-lt-of-le, le-of-suc-le-suc, not-suc-le-zero}
+use mathlib.Core.Path.{_≡_, refl}
+use mathlib.Core.Bool.{Bool, true, false, cond, not, _&&_, _||_}
+use native.Mathlib.Numerals.{add-one}
 use native.Mathlib.Omega.{arith}
-use lib.Dec.{ltb}
-use borrow.Author.Tests.{ltb-true, ltb-false}
-use Rattle.laws.specs.Below.{anyBelow, any-fails}
-use Rattle.laws.specs.Orders.{le-or-lt}
 
 unfoldable pub countBelow : ℕ → (ℕ → Bool) → ℕ
 countBelow zero p = 0
 countBelow (suc n) p = cond (p n) (countBelow n p + 1) (countBelow n p)
 
-unfoldable pub firstBelow : ℕ → (ℕ → Bool) → ℕ
-firstBelow zero p = 0
-firstBelow (suc n) p = cond (ltb (firstBelow n p) n) (firstBelow n p) (cond (p n) n (suc n))
+one-mono : (a b : Bool) (m n : ℕ) → (a ≡ true → b ≡ true) → m ≤ n → cond a (m + 1) m ≤ cond b (n + 1) n
+one-mono true b m n f l = rw (f refl) (omega arith)
+one-mono false true m n f l = omega arith
+one-mono false false m n f l = l
 
--- what `firstBelow n p` is: at most n; each number before it fails; if it is below n it passes
-pub record First (n : ℕ) (p : ℕ → Bool) (f : ℕ) : Type 0 where
-  pub within : f ≤ n
-  pub before : (k : ℕ) → k < f → p k ≡ false
-  pub passes : f < n → p f ≡ true
+-- who passes p passes q
+pub count-mono : (p q : ℕ → Bool) (n : ℕ) → ((k : ℕ) → k < n → p k ≡ true → q k ≡ true) → countBelow n p ≤ countBelow n q
+unfolding countBelow
+count-mono p q zero h = omega arith
+count-mono p q (suc n) h = one-mono (p n) (q n) (countBelow n p) (countBelow n q) (h n (omega arith)) (count-mono p q n (λ k l. h k (omega arith)))
 
-pub first-is : (n : ℕ) (p : ℕ → Bool) → First n p (firstBelow n p)
-unfolding firstBelow
-first-is zero p = record { within = omega arith; before = λ k l. absurd (not-suc-le-zero l); passes = λ l. absurd (not-suc-le-zero l) }
-first-is (suc n) p = go (ltb (firstBelow n p) n) refl (p n) refl (first-is n p)
-  where
-    go : (t : Bool) → ltb (firstBelow n p) n ≡ t → (u : Bool) → p n ≡ u → First n p (firstBelow n p) → First (suc n) p (cond t (firstBelow n p) (cond u n (suc n)))
-    go true e u q f = record { within = omega (arith, f .within); before = f .before; passes = λ l. f .passes (ltb-true _ _ e) }
-    go false e true q f =
-        let d : firstBelow n p ≡ n = omega (arith, f .within, ltb-false (firstBelow n p) n e) in
-        record { within = omega arith; before = λ k l. f .before k (omega arith); passes = λ l. q }
-    go false e false q f =
-        let d : firstBelow n p ≡ n = omega (arith, f .within, ltb-false (firstBelow n p) n e) in
-        record {
-          within = omega arith;
-          before = λ k l. ⊎-elim (λ (z : k ≡ n). rw z q) (λ m. f .before k (omega arith)) (eq-or-lt-of-le (le-of-suc-le-suc l));
-          passes = λ l. absurd (let v : ⊥ = omega arith in v);
-        }
+-- only what stands below n counts
+pub count-cong : (p q : ℕ → Bool) (n : ℕ) → ((k : ℕ) → k < n → p k ≡ q k) → countBelow n p ≡ countBelow n q
+unfolding countBelow
+count-cong p q zero h = refl
+count-cong p q (suc n) h = rw (count-cong p q n (λ k l. h k (omega arith)), h n (omega arith))
 
--- the first, found by a scan that has passed the numbers below i
-pub first-found : (n i : ℕ) (p : ℕ → Bool) → anyBelow i p ≡ false → i < n → p i ≡ true → firstBelow n p ≡ i
-first-found n i p h l e =
-    let f = first-is n p in
-    ⊎-elim
-    (λ (a : firstBelow n p ≤ i).
-    ⊎-elim (λ q. q) (λ (q : firstBelow n p < i). absurd (true≢false (sym (f .passes (omega arith)) ∙ any-fails p i (firstBelow n p) h q))) (eq-or-lt-of-le a))
-    (λ (a : i < firstBelow n p). absurd (true≢false (sym e ∙ f .before i a)))
-    (le-or-lt (firstBelow n p) i)
+-- a number passes p or q
+unfoldable pub either : (ℕ → Bool) → (ℕ → Bool) → ℕ → Bool
+either p q k = p k || q k
 
-pub first-none : (n : ℕ) (p : ℕ → Bool) → anyBelow n p ≡ false → firstBelow n p ≡ n
-first-none n p h =
-    let f = first-is n p in
-    ⊎-elim (λ q. q) (λ (q : firstBelow n p < n). absurd (true≢false (sym (f .passes q) ∙ any-fails p n (firstBelow n p) h q))) (eq-or-lt-of-le (f .within))
+-- a number passes q and not p
+unfoldable pub second : (ℕ → Bool) → (ℕ → Bool) → ℕ → Bool
+second p q k = not (p k) && q k
+
+one-split : (a b : Bool) (l m n : ℕ) → l ≡ m + n → cond (a || b) (l + 1) l ≡ cond a (m + 1) m + cond (not a && b) (n + 1) n
+one-split true b l m n e = omega arith
+one-split false true l m n e = omega arith
+one-split false false l m n e = e
+
+pub count-split : (p q : ℕ → Bool) (n : ℕ) → countBelow n (either p q) ≡ countBelow n p + countBelow n (second p q)
+unfolding countBelow either second
+count-split p q zero = refl
+count-split p q (suc n) = one-split (p n) (q n) _ _ _ (count-split p q n)
+
+-- the loop: c is the count so far, r what a call answered of number i, m the local that holds the bound n
+module _ (p : ℕ → Bool) where
+  pub count-none : 0 ≡ countBelow 0 p
+  unfolding countBelow
+  count-none = refl
+
+  module _ (i c : ℕ) (h : c ≡ countBelow i p) where
+    pub count-yes : (r : Bool) → r ≡ p i → r ≡ true → c + 1 ≡ countBelow (i + 1) p
+    unfolding countBelow
+    count-yes r e t = rw (add-one i, ← e, t, h)
+
+    pub count-no : (r : Bool) → r ≡ p i → r ≡ false → c ≡ countBelow (i + 1) p
+    unfolding countBelow
+    count-no r e t = rw (add-one i, ← e, t) h
+
+    pub count-done : (m n : ℕ) → m ≡ n → i ≤ m → m ≤ i → c ≡ countBelow n p
+    count-done m n q l k = let e : i ≡ n = omega arith in rw e at h
+
+pub ruleset counting = (count-none, count-yes, count-no, count-done)

@@ -14,7 +14,7 @@ use lib.Dec.{leb, ltb, eqb}
 use borrow.Author.Tests.{leb-true, le-leb, lt-leb, ltb-true, ltb-false, lt-ltb, le-ltb, eqb-true, eqb-false, eq-eqb, ne-eqb}
 use Rattle.laws.specs.Bools.{and-true, and-i, no-true}
 use Rattle.laws.specs.Below.{allBelow, all-at}
-use Rattle.laws.specs.Count.{firstBelow, First, first-is}
+use Rattle.laws.specs.First.{firstBelow, First, first-is}
 use Rattle.laws.specs.Orders.{le-or-lt}
 use Rattle.store.specs.Blocks.{fromBlock, blockCount}
 use Rattle.store.specs.Scan.{slotSize, slotAt, sizeAt, isUpdate, isBad, nextSlot, begins, first, sound, startsTo, sizesTo, pad, listed, storeOk, directory}

@@ -12,7 +12,7 @@ use native.Mathlib.Omega.{arith}
 use lib.Dec.{leb, ltb, eqb}
 use borrow.Author.Tests.{lt-ltb, le-ltb}
 use Rattle.laws.specs.Below.{anyBelow, any-none, any-more}
-use Rattle.laws.specs.Count.{firstBelow, first-found, first-none}
+use Rattle.laws.specs.First.{firstBelow, first-found, first-none}
 use Rattle.store.specs.Scan.{slotAt, begins}
 use Rattle.store.specs.declared.slot.Slot.{Slot}
 use Rattle.store.specs.declared.slot.Slot.the-variants.{Unused, Update, Bad}

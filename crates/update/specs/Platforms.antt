@@ -11,7 +11,8 @@ use lib.Dec.{eqb}
 use lib.Count.{ones, onesIn, trailingZeros}
 use borrow.Author.Tests.{eqb-true}
 use Rattle.laws.specs.Below.{allBelow, all-at}
-use Rattle.laws.specs.Count.{countBelow, firstBelow}
+use Rattle.laws.specs.Count.{countBelow}
+use Rattle.laws.specs.First.{firstBelow}
 use Rattle.laws.specs.LowByte.{bit}
 use Rattle.update.specs.Covers.{platformsAt, names}
 

@@ -1,0 +1,5 @@
+-- The update calls (document 01, "Codes" and "The calls").
+pub mod Answers
+pub mod Presence
+pub mod Control
+pub mod Read

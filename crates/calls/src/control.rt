@@ -1,0 +1,40 @@
+// Sub-function 2, control. It never looks at the store, and nothing turns loading off.
+ghost use mathlib.Core.Path.{_≡_};
+ghost use Rattle.calls.specs.Control.{statusOf, controlReply};
+use crate::answer::Answer;
+use crate::answer::Control;
+use crate::answer::Refused;
+use crate::answer::Reply;
+
+fn status_of(loading: bool) -> u8
+    ensures { λ r. ⌜ r ≡ statusOf loading ⌝ }
+{
+    if loading { 1 } else { 0 }
+}
+
+pub fn control(task: u32, loading: bool) -> Reply
+    ensures { λ r. ⌜ r ≡ controlReply task loading ⌝ }
+{
+    if task == 1 {
+        return Reply {
+            answer: Answer::Control(Control { status: 1 }),
+            loading: true,
+        };
+    }
+    if task == 2 {
+        return Reply {
+            answer: Answer::Control(Control {
+                status: status_of(loading),
+            }),
+            loading,
+        };
+    }
+    Reply {
+        answer: Answer::Refused(Refused {
+            ah: 0x86,
+            al: 0,
+            status: 0xFF,
+        }),
+        loading,
+    }
+}

@@ -1,0 +1,64 @@
+// Sub-function 3, read.
+ghost use mathlib.Core.Path.{_≡_};
+ghost use lib.ListN.{length};
+ghost use Rattle.calls.specs.Read.{readBlocks, readKind, readAnswer, readBytes};
+use crate::answer;
+use crate::answer::Answer;
+use crate::answer::Read;
+use crate::copy;
+use store::blocks;
+use store::directory;
+use store::kind;
+use store::kind::Kind;
+
+// `k` blocks are to be copied into `lent` bytes.
+fn read_blocks(k: u32, lent: usize) -> Answer
+    ensures { λ r. ⌜ r ≡ readBlocks k lent ⌝ }
+{
+    if lent < k as usize * 2048 {
+        answer::refuse(0x92, 3)
+    } else {
+        Answer::Read(Read { blocks: k })
+    }
+}
+
+fn read_kind(kind: Kind, lent: usize) -> Answer
+    ensures { λ r. ⌜ r ≡ readKind kind lent ⌝ }
+{
+    match kind {
+        Kind::Free => read_blocks(1, lent),
+        Kind::First { blocks } => read_blocks(blocks, lent),
+        Kind::Later => answer::refuse(0x9A, 0),
+    }
+}
+
+// The answer, for a destination of `lent` bytes.
+fn read_answer(store: &[u8], block: u32, lent: usize) -> Answer
+    ensures { λ r. ⌜ r ≡ readAnswer (now (store .entry)) block lent ⌝ }
+{
+    let d = directory::read_store(store);
+    let ok = d.ok;
+    if ok {
+        if (block as usize) < store.len() / 2048 {
+            read_kind(kind::block_kind(d, block), lent)
+        } else {
+            answer::refuse(0x99, 0)
+        }
+    } else {
+        answer::refuse(0x92, 1)
+    }
+}
+
+// Copies an unused block, or all blocks of the update that begins at the block. The bytes behind them stay.
+pub fn read(store: &[u8], block: u32, destination: &mut [u8]) -> Answer
+    ensures answers { λ r. ⌜ r ≡ readAnswer (now (store .entry)) block (length (now (destination .entry))) ⌝ }
+    ensures copies { λ r. ⌜ now (destination .exit) ≡ readBytes (now (store .entry)) block (now (destination .entry)) ⌝ }
+{
+    let answer = read_answer(store, block, destination.len());
+    if let Answer::Read(r) = answer {
+        let k = r.blocks;
+        let part = blocks::from_block(store, block);
+        copy::copy(destination, part, k as usize * 2048);
+    }
+    answer
+}

@@ -1,0 +1,37 @@
+-- `placement::lost` meets its contract. The loop's invariant: `touched` counts the updates passed that are lost.
+use borrow.Author.Needs.{needs}
+use mathlib.Core.Path.{_≡_}
+use Prim.Native.Nat.{_≤_, _-_}
+use Rattle.laws.specs.Count.{countBelow, counting}
+use Rattle.placement.specs.Choose.{touches, loses, lost}
+use Rattle.placement.specs.Marks.{held}
+use Rattle.placement.proofs.lost.Statement.{statement}
+use Rattle.placement.proofs.lost.Tie as tie
+
+abbrev Inv-loop : tie.InvT-loop
+Inv-loop k s m touched₀ i₀ touched i = (i ≤ m .count) × (touched ≤ i) × (touched ≡ countBelow i (loses (held m) k s))
+
+abbrev μ-loop : tie.MeasureT-loop
+μ-loop k s m touched₀ i₀ touched i = m .count - i
+
+pub lost-spec : {M : Type 1} → statement M
+unfolding lost loses touches held
+lost-spec =
+    tie.close
+    (tie.spec
+    Inv-loop
+    μ-loop
+    (λ c. search (needs, counting))
+    (search needs)
+    (search needs)
+    (search needs)
+    (search needs)
+    (search needs)
+    (search needs)
+    (search needs)
+    (search needs)
+    (search needs)
+    (λ c. search (needs, counting))
+    (search needs)
+    (λ c. search (needs, counting))
+    (λ c. search (needs, counting)))

@@ -1,0 +1,65 @@
+-- What the program's `Marked` and `Choice` stand for.
+--   held        the updates of a `Marked`
+--   choiceOf    a pick as a `Choice`
+--   pickOf      a `Choice` as a pick
+--   choice-pick, pick-choice    one behind the other changes nothing
+--   picking     the loop over the starts, as `search` takes it
+use Prim.Native.Nat.{ℕ, suc, _+_, _-_, _<_, _≤_}
+use mathlib.Core.Path.{_≡_, refl}
+use mathlib.Core.Bool.{Bool, false, cond}
+use native.Mathlib.Numerals.{add-one}
+use native.Mathlib.Omega.{arith}
+use lib.ListN.{getD}
+use Rattle.laws.specs.Least.{Pick, nowhere, at, better, least}
+use Rattle.placement.specs.declared.Marked.{Marked}
+use Rattle.placement.specs.declared.Choice.{Choice}
+use Rattle.placement.specs.declared.Choice.the-variants.{At, Nowhere}
+use Rattle.placement.specs.Held.{Held}
+
+-- entry i of each array
+abbrev pub startAt : Marked → ℕ → ℕ
+startAt m i = getD (m .starts) i 0
+
+abbrev pub sizeAt : Marked → ℕ → ℕ
+sizeAt m i = getD (m .sizes) i 0
+
+abbrev pub sharesAt : Marked → ℕ → Bool
+sharesAt m i = getD (m .shares) i false
+
+abbrev pub keepsAt : Marked → ℕ → Bool
+keepsAt m i = getD (m .keeps) i false
+
+unfoldable pub held : Marked → Held
+held m = record { count = m .count; start = startAt m; size = sizeAt m; shares = sharesAt m; keeps = keepsAt m }
+
+abbrev pub choiceOf : Pick → Choice
+choiceOf nowhere = Nowhere
+choiceOf (at s c) = At s c
+
+abbrev pub pickOf : Choice → Pick
+pickOf Nowhere = nowhere
+pickOf (At s c) = at s c
+
+pub choice-pick : (c : Choice) → c ≡ choiceOf (pickOf c)
+choice-pick Nowhere = refl
+choice-pick (At s c) = refl
+
+pub pick-choice : (p : Pick) → p ≡ pickOf (choiceOf p)
+pick-choice nowhere = refl
+pick-choice (at s c) = refl
+
+-- the loop: sofar is the choice among the starts below s, r the choice behind one turn
+module _ (shut : ℕ → Bool) (cost : ℕ → ℕ) where
+  pub pick-none : Nowhere ≡ choiceOf (least shut cost 0)
+  unfolding least
+  pick-none = refl
+
+  module _ (s : ℕ) (sofar : Choice) (h : sofar ≡ choiceOf (least shut cost s)) where
+    pub pick-turn : (r : Choice) → r ≡ choiceOf (cond (shut s) (pickOf sofar) (better (pickOf sofar) s (cost s))) → r ≡ choiceOf (least shut cost (s + 1))
+    unfolding least
+    pick-turn r e = rw (add-one s, pick-choice (least shut cost s), ← h) e
+
+    pub pick-done : (n k : ℕ) → s ≤ suc n - k → n < s + k → sofar ≡ choiceOf (least shut cost (suc n - k))
+    pick-done n k l m = let e : s ≡ suc n - k = omega arith in rw e at h
+
+pub ruleset picking = (pick-none, pick-turn, pick-done)

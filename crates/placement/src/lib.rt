@@ -1,0 +1,181 @@
+// The choice of a run of blocks for a new update. `k` is the number of blocks that it takes, `s` a start block.
+ghost use mathlib.Core.Path.{_≡_};
+ghost use mathlib.Core.Bool.{cond, not, _&&_, _||_};
+ghost use Prim.Native.Nat.{_+_, _≤_};
+ghost use lib.Dec.{ltb};
+ghost use Rattle.laws.specs.Below.{anyBelow};
+ghost use Rattle.laws.specs.Count.{countBelow};
+ghost use Rattle.laws.specs.Least.{better};
+ghost use Rattle.placement.specs.Choose.{barred, lost, torn, choose};
+ghost use Rattle.placement.specs.Marks.{held, choiceOf, pickOf};
+
+// The stored updates in the order of their starts: update i < count starts at a block, has a size in blocks, and two marks against the
+// candidate: it covers a processor that the candidate covers; it covers a listed processor that the candidate doesn't.
+pub struct Marked {
+    pub starts: [u32; 32],
+    pub sizes: [u32; 32],
+    pub shares: [bool; 32],
+    pub keeps: [bool; 32],
+    pub count: usize,
+}
+
+pub enum Choice {
+    // the start of the run, and how many updates that do not share it touches
+    At { start: u32, touched: u32 },
+    Nowhere,
+}
+
+// Does the run of `k` blocks from `s` touch the update of `size` blocks from `start`?
+fn touches(start: u32, size: u32, k: u32, s: u32) -> bool
+    ensures { λ r. ⌜ r ≡ ltb s (start + size) && ltb start (s + k) ⌝ }
+{
+    if (s as usize) < start as usize + size as usize {
+        (start as usize) < s as usize + k as usize
+    } else {
+        false
+    }
+}
+
+// Would the update be emptied, and must it not be?
+fn bars(start: u32, size: u32, shares: bool, keeps: bool, k: u32, s: u32) -> bool
+    ensures { λ r. ⌜ r ≡ keeps && (shares || (ltb s (start + size) && ltb start (s + k))) ⌝ }
+{
+    if keeps {
+        if shares {
+            true
+        } else {
+            touches(start, size, k, s)
+        }
+    } else {
+        false
+    }
+}
+
+// Is the update touched, and does it not share?
+fn loses(start: u32, size: u32, shares: bool, k: u32, s: u32) -> bool
+    ensures { λ r. ⌜ r ≡ not shares && (ltb s (start + size) && ltb start (s + k)) ⌝ }
+{
+    if shares {
+        false
+    } else {
+        touches(start, size, k, s)
+    }
+}
+
+// Does some update rule the start out?
+fn barred(m: Marked, k: u32, s: u32) -> bool
+    requires { ⌜ m .count ≤ 32 ⌝ }
+    ensures { λ r. ⌜ r ≡ barred (held m) k s ⌝ }
+{
+    let mut i: usize = 0;
+    while i < m.count {
+        if bars(m.starts[i], m.sizes[i], m.shares[i], m.keeps[i], k, s) {
+            return true;
+        }
+        i += 1;
+    }
+    false
+}
+
+// How many updates that do not share does the run touch?
+fn lost(m: Marked, k: u32, s: u32) -> u32
+    requires { ⌜ m .count ≤ 32 ⌝ }
+    ensures { λ r. ⌜ r ≡ lost (held m) k s ⌝ }
+{
+    let mut touched: u32 = 0;
+    let mut i: usize = 0;
+    while i < m.count {
+        let at = i;
+        i += 1;
+        if loses(m.starts[at], m.sizes[at], m.shares[at], k, s) {
+            touched += 1;
+        }
+    }
+    touched
+}
+
+// The choice so far against a later start.
+fn better(sofar: Choice, s: u32, cost: u32) -> Choice
+    ensures { λ r. ⌜ r ≡ choiceOf (better (pickOf sofar) s cost) ⌝ }
+{
+    match sofar {
+        Choice::Nowhere => Choice::At {
+            start: s,
+            touched: cost,
+        },
+        Choice::At { start: _, touched } => {
+            if cost < touched {
+                Choice::At {
+                    start: s,
+                    touched: cost,
+                }
+            } else {
+                sofar
+            }
+        }
+    }
+}
+
+// The choice so far against a later start, which may be ruled out.
+fn tried(m: Marked, k: u32, s: u32, sofar: Choice) -> Choice
+    requires { ⌜ m .count ≤ 32 ⌝ }
+    ensures { λ r. ⌜ r ≡ choiceOf (cond (barred (held m) k s) (pickOf sofar) (better (pickOf sofar) s (lost (held m) k s))) ⌝ }
+{
+    if barred(m, k, s) {
+        sofar
+    } else {
+        better(sofar, s, lost(m, k, s))
+    }
+}
+
+// The start for a run of `k` of the `n` blocks: the one that loses the fewest updates, the lowest on a tie.
+pub fn choose_run(m: Marked, n: u32, k: u32) -> Choice
+    requires { ⌜ (m .count ≤ 32) × (n ≤ 32) ⌝ }
+    ensures { λ r. ⌜ r ≡ choiceOf (choose n k (held m)) ⌝ }
+{
+    let mut sofar = Choice::Nowhere;
+    let mut s: u32 = 0;
+    while s as usize + k as usize <= n as usize {
+        sofar = tried(m, k, s, sofar);
+        s += 1;
+    }
+    sofar
+}
+
+fn both(a: bool, b: bool) -> bool
+    ensures { λ r. ⌜ r ≡ a && b ⌝ }
+{
+    if a { b } else { false }
+}
+
+// Has some update both marks? Then it rules every start out.
+pub fn torn(m: Marked) -> bool
+    requires { ⌜ m .count ≤ 32 ⌝ }
+    ensures { λ r. ⌜ r ≡ anyBelow (m .count) (torn (held m)) ⌝ }
+{
+    let mut i: usize = 0;
+    while i < m.count {
+        if both(m.shares[i], m.keeps[i]) {
+            return true;
+        }
+        i += 1;
+    }
+    false
+}
+
+// How many updates share?
+pub fn shared(m: Marked) -> u32
+    requires { ⌜ m .count ≤ 32 ⌝ }
+    ensures { λ r. ⌜ r ≡ countBelow (m .count) (held m .shares) ⌝ }
+{
+    let mut sharing: u32 = 0;
+    let mut i: usize = 0;
+    while i < m.count {
+        let at = i;
+        i += 1;
+        if m.shares[at] {
+            sharing += 1;
+        }
+    }
+    sharing
+}
