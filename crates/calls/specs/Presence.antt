@@ -14,9 +14,16 @@ use Rattle.calls.specs.declared.answer.Answer.the-variants.{Presence}
 abbrev pub present : ℕ → Answer
 present n =
     Presence (record {
-      byte0 = 0x49; byte1 = 0x4E; byte2 = 0x54; byte3 = 0x45;
-      byte4 = 0x4C; byte5 = 0x50; byte6 = 0x45; byte7 = 0x50;
-      «loader_version» = 1; blocks = n;
+      byte0 = 0x49;
+      byte1 = 0x4E;
+      byte2 = 0x54;
+      byte3 = 0x45;
+      byte4 = 0x4C;
+      byte5 = 0x50;
+      byte6 = 0x45;
+      byte7 = 0x50;
+      «loader_version» = 1;
+      blocks = n;
     })
 
 unfoldable pub presenceAnswer : List ℕ → Answer

@@ -1,0 +1,1 @@
+// The outcome of a write: what it may empty, and the bytes that it leaves.
