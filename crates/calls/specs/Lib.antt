@@ -3,3 +3,5 @@ pub mod Answers
 pub mod Presence
 pub mod Control
 pub mod Read
+pub mod Copy
+pub mod ReadLaws

@@ -1,11 +1,18 @@
 -- Sub-function 0, presence (document 01, "The calls"): bad store, else the ASCII bytes INTE and LPEP, loader version 1, N.
-use Prim.Native.Nat.{ℕ}
-use mathlib.Core.Path.{_≡_, ap, sym, _∙_}
+--   present           the answer, for N blocks
+--   presenceAnswer    the answer of the call
+use Prim.Native.Nat.{ℕ, _/_, _≤_}
+use mathlib.Core.Path.{_≡_, sym, _∙_}
 use mathlib.Core.Bool.{true, false}
 use mathlib.Core.List.{List}
+use native.Mathlib.Omega.{arith}
+use lib.ListN.{length}
 use Rattle.laws.specs.Unless.{unless, unless-pass, unless-stop}
 use Rattle.store.specs.Blocks.{blockCount}
 use Rattle.store.specs.Scan.{storeOk, directory}
+use Rattle.store.specs.StoreLaws.{directory-ok}
+use Rattle.store.specs.ValidLaws.{store-valid}
+use Rattle.store.specs.declared.directory.Directory.{Directory}
 use Rattle.calls.specs.Answers.{refusal}
 use Rattle.calls.specs.declared.answer.Answer.{Answer}
 use Rattle.calls.specs.declared.answer.Answer.the-variants.{Presence}
@@ -28,3 +35,19 @@ present n =
 
 unfoldable pub presenceAnswer : List ℕ → Answer
 presenceAnswer s = unless (storeOk s) (refusal 0x92 1) (present (blockCount s))
+
+-- d is the directory that was read, and z the answer
+module _ (s : List ℕ) (d : Directory) (z : Answer) (e : d ≡ directory s) where
+  pub presence-yes : d .ok ≡ true → z ≡ present (length s / 2048) → z ≡ presenceAnswer s
+  unfolding presenceAnswer blockCount
+  presence-yes h k = unless-pass (d .ok) (storeOk s) z (refusal 0x92 1) (present (length s / 2048)) (directory-ok s d e) h k
+
+  pub presence-no : d .ok ≡ false → z ≡ refusal 0x92 1 → z ≡ presenceAnswer s
+  unfolding presenceAnswer
+  presence-no h k = unless-stop (d .ok) (storeOk s) z (refusal 0x92 1) (present (blockCount s)) (directory-ok s d e) h k
+
+pub ruleset presenting = (presence-yes, presence-no)
+
+-- a valid store has at most 65,536 bytes
+pub store-small : (s : List ℕ) (d : Directory) → d ≡ directory s → d .ok ≡ true → length s ≤ 65536
+store-small s d e h = let v = store-valid s (sym (directory-ok s d e) ∙ h) in omega (arith, v .long, v .few)

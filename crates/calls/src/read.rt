@@ -1,7 +1,7 @@
 // Sub-function 3, read.
 ghost use mathlib.Core.Path.{_≡_};
 ghost use lib.ListN.{length};
-ghost use Rattle.calls.specs.Read.{readBlocks, readKind, readAnswer, readBytes};
+ghost use Rattle.calls.specs.Read.{readBlocks, readKind, readAnswer, blocksRead, readBytes};
 use crate::answer;
 use crate::answer::Answer;
 use crate::answer::Read;
@@ -49,16 +49,30 @@ fn read_answer(store: &[u8], block: u32, lent: usize) -> Answer
     }
 }
 
+// How many blocks an answer says are copied.
+fn blocks_read(answer: Answer) -> u32
+    ensures { λ r. ⌜ r ≡ blocksRead answer ⌝ }
+{
+    match answer {
+        Answer::Presence(_) => 0,
+        Answer::Written(_) => 0,
+        Answer::Control(_) => 0,
+        Answer::Read(r) => r.blocks,
+        Answer::Refused(_) => 0,
+    }
+}
+
 // Copies an unused block, or all blocks of the update that begins at the block. The bytes behind them stay.
 pub fn read(store: &[u8], block: u32, destination: &mut [u8]) -> Answer
     ensures answers { λ r. ⌜ r ≡ readAnswer (now (store .entry)) block (length (now (destination .entry))) ⌝ }
     ensures copies { λ r. ⌜ now (destination .exit) ≡ readBytes (now (store .entry)) block (now (destination .entry)) ⌝ }
 {
     let answer = read_answer(store, block, destination.len());
-    if let Answer::Read(r) = answer {
-        let k = r.blocks;
-        let part = blocks::from_block(store, block);
-        copy::copy(destination, part, k as usize * 2048);
-    }
+    let k = blocks_read(answer);
+    copy::copy(
+        destination,
+        blocks::from_block(store, block),
+        k as usize * 2048,
+    );
     answer
 }

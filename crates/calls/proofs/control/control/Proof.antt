@@ -1,0 +1,16 @@
+-- `calls::control::control` meets its contract: the task decides.
+use borrow.Author.Needs.{needs}
+use Rattle.laws.specs.Tests.{cases}
+use Rattle.calls.specs.Control.{controlReply, control-query}
+use Rattle.calls.proofs.control.control.Statement.{statement}
+use Rattle.calls.proofs.control.control.Tie as tie
+
+pub control-spec : {M : Type 1} → statement M
+unfolding controlReply
+control-spec =
+    tie.close
+    (tie.spec
+    (λ c. search cases)
+    (search needs)
+    (λ c. search control-query)
+    (λ c. search cases))

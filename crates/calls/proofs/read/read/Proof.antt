@@ -1,0 +1,18 @@
+-- `calls::read::read` meets its contract: the blocks that the answer says are copied, none on a refusal.
+use borrow.Author.Needs.{needs}
+use Rattle.calls.specs.ReadLaws.{copied}
+use Rattle.calls.proofs.read.read.Statement.{statement}
+use Rattle.calls.proofs.read.read.Tie as tie
+
+pub read-spec : {M : Type 1} → statement M
+read-spec =
+    tie.close
+    (tie.spec
+    (search needs)
+    (search needs)
+    (search needs)
+    (search needs)
+    (search needs)
+    (λ c κs. search (needs, copied))
+    (search needs)
+    (λ c. (search needs, search copied)))

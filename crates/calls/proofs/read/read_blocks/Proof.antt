@@ -1,0 +1,17 @@
+-- `calls::read::read_blocks` meets its contract: one branch.
+use borrow.Author.Needs.{needs}
+use Rattle.laws.specs.Tests.{cases}
+use Rattle.laws.specs.Unless.{unless}
+use Rattle.calls.specs.Read.{readBlocks}
+use Rattle.calls.proofs.read.read_blocks.Statement.{statement}
+use Rattle.calls.proofs.read.read_blocks.Tie as tie
+
+pub read-blocks-spec : {M : Type 1} → statement M
+unfolding readBlocks unless
+read-blocks-spec =
+    tie.close
+    (tie.spec
+    (search needs)
+    (search needs)
+    (λ c. search cases)
+    (λ c. search cases))
