@@ -1,0 +1,4 @@
+-- The load choice (document 01, "Load choice").
+pub mod Load
+pub mod LoadLaws
+pub mod DataLaws

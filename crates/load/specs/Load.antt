@@ -1,0 +1,49 @@
+-- The load choice (document 01): bad store (AL 1); platform above 7 (AL 2); loading off: nothing; none covers it: nothing; else the start block,
+-- the revision and the update's data bytes as a part of the lent store.
+--   holds         the update that begins at block b covers the processor
+--   holder        the first block of the update that covers it, N where there is none
+--   found         the choice in a valid store, with loading on
+--   loadChoice    the whole order
+--   dataPart      the data bytes of the update at the start of a part
+--   chosenData    the data bytes of a choice: none but where an update is chosen
+use Prim.Native.Nat.{ℕ}
+use mathlib.Core.Bool.{Bool, _&&_}
+use mathlib.Core.List.{List, []}
+use lib.ListN.{take, drop}
+use lib.Dec.{leb, ltb}
+use Rattle.laws.specs.First.{firstBelow}
+use Rattle.laws.specs.Unless.{unless}
+use Rattle.update.specs.Fields.{revision, dataSize}
+use Rattle.update.specs.Covers.{covers}
+use Rattle.store.specs.Blocks.{fromBlock, blockCount}
+use Rattle.store.specs.Scan.{first, storeOk}
+use Rattle.load.specs.declared.LoadChoice.{LoadChoice}
+use Rattle.load.specs.declared.LoadChoice.the-variants.{Refused, Nothing, Chosen}
+
+unfoldable pub holds : List ℕ → ℕ → ℕ → ℕ → Bool
+holds s x p b = first s b && covers (fromBlock s b) x p
+
+unfoldable pub holder : List ℕ → ℕ → ℕ → ℕ
+holder s x p = firstBelow (blockCount s) (holds s x p)
+
+-- the update at block b, if b is below N
+unfoldable pub chosenAt : List ℕ → ℕ → LoadChoice
+chosenAt s b = unless (ltb b (blockCount s)) Nothing (Chosen b (revision (fromBlock s b)))
+
+unfoldable pub found : List ℕ → ℕ → ℕ → LoadChoice
+found s x p = chosenAt s (holder s x p)
+
+unfoldable pub loadChoice : Bool → List ℕ → ℕ → ℕ → LoadChoice
+loadChoice loading s x p =
+    unless (storeOk s) (Refused 0x92 1)
+    (unless (leb p 7) (Refused 0x92 2)
+    (unless loading Nothing
+    (found s x p)))
+
+unfoldable pub dataPart : List ℕ → List ℕ
+dataPart u = take (dataSize u) (drop 48 u)
+
+unfoldable pub chosenData : List ℕ → LoadChoice → List ℕ
+chosenData s (Refused ah al) = []
+chosenData s Nothing = []
+chosenData s (Chosen b r) = dataPart (fromBlock s b)

@@ -1,0 +1,97 @@
+// The load choice at start-up: which stored update a processor gets, and its data as a part of the lent store.
+ghost use mathlib.Core.Path.{_≡_};
+ghost use mathlib.Core.Bool.{true};
+ghost use lib.ListN.{take, drop};
+ghost use Rattle.update.specs.Fields.{dataSize};
+ghost use Rattle.store.specs.Scan.{directory};
+ghost use Rattle.load.specs.Load.{dataPart, found, loadChoice, chosenData};
+use store::blocks;
+use store::directory;
+use store::directory::Directory;
+use update::covers;
+use update::fields;
+use update::sizes;
+
+pub enum LoadChoice {
+    // the codes
+    Refused { ah: u8, al: u8 },
+    Nothing,
+    // the update's first block and its revision
+    Chosen { start: u32, revision: u32 },
+}
+
+// The held update that covers the processor, by the directory of the store.
+fn find(store: &[u8], d: Directory, signature: u32, platform: u32) -> LoadChoice
+    requires { ⌜ (d ≡ directory (now store)) × (d .ok ≡ true) ⌝ }
+    ensures { λ r. ⌜ r ≡ found (now (store .entry)) signature platform ⌝ }
+{
+    let mut i: usize = 0;
+    while i < d.count {
+        let start = d.starts[i];
+        let u = blocks::from_block(store, start);
+        if covers::covers(u, signature, platform) {
+            return LoadChoice::Chosen {
+                start,
+                revision: fields::revision(u),
+            };
+        }
+        i += 1;
+    }
+    LoadChoice::Nothing
+}
+
+// The choice for a processor.
+pub fn choose(loading: bool, store: &[u8], signature: u32, platform: u32) -> LoadChoice
+    ensures { λ r. ⌜ r ≡ loadChoice loading (now (store .entry)) signature platform ⌝ }
+{
+    let d = directory::read_store(store);
+    let ok = d.ok;
+    if ok {
+        if platform <= 7 {
+            if loading {
+                find(store, d, signature, platform)
+            } else {
+                LoadChoice::Nothing
+            }
+        } else {
+            LoadChoice::Refused { ah: 0x92, al: 2 }
+        }
+    } else {
+        LoadChoice::Refused { ah: 0x92, al: 1 }
+    }
+}
+
+// The data bytes of the update at the start of a part.
+fn data_part(u: &[u8]) -> &[u8]
+    ensures { λ r. ⌜ now r ≡ dataPart (now (u .entry)) ⌝ }
+{
+    let n = sizes::data_size(u) as usize;
+    if u.len() < 48 {
+        return &u[..0];
+    }
+    let rest = u.len() - 48;
+    if n <= rest {
+        let end = 48 + n;
+        &u[48..end]
+    } else {
+        &u[48..]
+    }
+}
+
+// The chosen data bytes, a part of the lent store; none where nothing is chosen.
+pub fn data_of(store: &[u8], choice: LoadChoice) -> &[u8]
+    ensures { λ r. ⌜ now r ≡ chosenData (now (store .entry)) choice ⌝ }
+{
+    match choice {
+        LoadChoice::Chosen { start, revision: _ } => data_part(blocks::from_block(store, start)),
+        LoadChoice::Nothing => &store[..0],
+        LoadChoice::Refused { ah: _, al: _ } => &store[..0],
+    }
+}
+
+// Both in one: the data bytes that the processor gets.
+pub fn data(loading: bool, store: &[u8], signature: u32, platform: u32) -> &[u8]
+    ensures { λ r. ⌜ now r ≡ chosenData (now (store .entry)) (loadChoice loading (now (store .entry)) signature platform) ⌝ }
+{
+    data_of(store, choose(loading, store, signature, platform))
+}
