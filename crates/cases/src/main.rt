@@ -1,8 +1,10 @@
 // Runs the cases of document 01 and writes a line for each.
 mod make;
 mod say;
+mod stores;
 mod updates;
 
 fn main() {
     updates::run();
+    stores::run();
 }

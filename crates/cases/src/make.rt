@@ -14,6 +14,18 @@ pub fn put(buf: &mut [u8], at: usize, x: u32) {
     }
 }
 
+// Fills `n` bytes from `from` on with one byte.
+pub fn fill(buf: &mut [u8], from: u32, n: u32, byte: u8) {
+    let mut i: u32 = 0;
+    while i < n {
+        let at = from as usize + i as usize;
+        i += 1;
+        if at < buf.len() {
+            buf[at] = byte;
+        }
+    }
+}
+
 // The first `n` bytes, or all where there are fewer.
 pub fn first(s: &[u8], n: usize) -> &[u8] {
     if n <= s.len() { &s[..n] } else { s }
@@ -111,4 +123,23 @@ pub fn tabled(buf: &mut [u8], signature: u32, flags: u32, d: u32, n: u32) {
     put(buf, at, n);
     entries(buf, at, n, signature, flags);
     seal_table(buf, at, at + 20 + 12 * (n as usize));
+}
+
+// Four blocks of FFh, with P in block 1.
+pub fn four_blocks(buf: &mut [u8]) {
+    fill(buf, 0, 8192, 255);
+    fill(buf, 2048, 2048, 0);
+    if 2048 <= buf.len() {
+        p(&mut buf[2048..], 7, 0xF8E7E009);
+    }
+}
+
+// Eight blocks of FFh, with P in block 1 and an update of two blocks, 3,072 bytes, in blocks 3 and 4.
+pub fn eight_blocks(buf: &mut [u8]) {
+    fill(buf, 0, 16384, 255);
+    four_blocks(buf);
+    fill(buf, 6144, 3072, 0);
+    if 6144 <= buf.len() {
+        plain(&mut buf[6144..], 0x683, 0x81, 3024);
+    }
 }

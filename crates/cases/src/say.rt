@@ -1,5 +1,7 @@
 // A line of output for each kind of answer.
+use calls::answer::Answer;
 use libc::STDOUT_FILENO;
+use load::LoadChoice;
 use update::verdict::Verdict;
 
 pub fn text(s: &[u8]) {
@@ -55,5 +57,86 @@ pub fn platforms(label: &[u8], s: &[u8]) {
     text(label);
     number(b": platforms ", update::platforms::platform_count(s));
     number(b", lowest ", update::platforms::lowest_platform(s));
+    text(b"\n");
+}
+
+fn code(label: &[u8], n: u32) {
+    text(label);
+    io::print_hex(STDOUT_FILENO, n as u64, 2);
+}
+
+fn wide(x: u8) -> u32 {
+    x as u32
+}
+
+// An answer by its codes, or with its numbers.
+pub fn reply(label: &[u8], answer: Answer) {
+    text(label);
+    match answer {
+        Answer::Presence(a) => {
+            text(b": presence ");
+            let bytes = [
+                a.byte0,
+                a.byte1,
+                a.byte2,
+                a.byte3,
+                a.byte4,
+                a.byte5,
+                a.byte6,
+                a.byte7,
+            ];
+            text(&bytes);
+            number(b", loader ", a.loader_version);
+            number(b", blocks ", a.blocks);
+        }
+        Answer::Written(a) => {
+            number(b": written, start ", a.start);
+            number(b", emptied ", a.emptied);
+        }
+        Answer::Control(a) => number(b": control, status ", wide(a.status)),
+        Answer::Read(a) => number(b": read, blocks ", a.blocks),
+        Answer::Refused(a) => {
+            code(b": refused, AH ", wide(a.ah));
+            code(b", AL ", wide(a.al));
+            code(b", status ", wide(a.status));
+        }
+    }
+    text(b"\n");
+}
+
+// The loading state after a call.
+pub fn loading(on: bool) {
+    if on {
+        text(b"  loading on\n");
+    } else {
+        text(b"  loading off\n");
+    }
+}
+
+// The destination after a read: its first dword, and the sum of all.
+pub fn destination(s: &[u8]) {
+    text(b"  destination begins ");
+    io::print_hex(STDOUT_FILENO, dwords::dword(s, 0) as u64, 8);
+    text(b", sums to ");
+    io::print_hex(STDOUT_FILENO, dwords::sum(s) as u64, 8);
+    text(b"\n");
+}
+
+// A load choice, and how many data bytes it gives.
+pub fn load(label: &[u8], choice: LoadChoice, data: &[u8]) {
+    text(label);
+    match choice {
+        LoadChoice::Refused { ah, al } => {
+            code(b": refused, AH ", wide(ah));
+            code(b", AL ", wide(al));
+        }
+        LoadChoice::Nothing => text(b": nothing"),
+        LoadChoice::Chosen { start, revision } => {
+            number(b": start ", start);
+            number(b", revision ", revision);
+        }
+    }
+    text(b", data ");
+    io::print_decimal(STDOUT_FILENO, data.len() as u64);
     text(b"\n");
 }
