@@ -6,6 +6,7 @@ pub mod Loops
 pub mod Count
 pub mod First
 pub mod Least
+pub mod Arrays
 pub mod Unless
 pub mod Tests
 pub mod LowByte

@@ -1,0 +1,40 @@
+-- An array that a loop fills from the front.
+--   Filled                        its first i elements are f 0, f 1, ..
+--   filled-none, filled-more      a loop's start and its turn
+--   filled-at, filled-all         what stands in it, and the loop's end
+--   filling                       all of them, for `search`
+use Prim.Native.Nat.{ℕ, _+_, _<_, _≤_}
+use mathlib.Core.Path.{_≡_, _∙_}
+use mathlib.Core.List.{List}
+use mathlib.Core.Logic.{⊎-elim}
+use native.Mathlib.Nat.{eq-or-lt-of-le}
+use native.Mathlib.Omega.{arith}
+use lib.ListN.{length, getD, set, length-set}
+use lib.Seq.{getD-set-same, getD-set-other}
+
+-- z is what a place behind the end would hold
+pub record Filled {A : Type 0} (z : A) (size : ℕ) (f : ℕ → A) (i : ℕ) (xs : List A) : Type 0 where
+  pub long : length xs ≡ size
+  pub each : (k : ℕ) → k < i → getD xs k z ≡ f k
+
+module _ {A : Type 0} (z : A) (size : ℕ) (f : ℕ → A) (xs : List A) where
+  pub filled-none : length xs ≡ size → Filled z size f 0 xs
+  filled-none e = record { long = e; each = λ k l. absurd (omega arith) }
+
+  -- x is what a call answered of number i
+  pub filled-more : (i : ℕ) (x : A) → Filled z size f i xs → i < size → x ≡ f i → Filled z size f (i + 1) (set xs i x)
+  filled-more i x h l e = record { long = length-set xs i x ∙ h .long; each = λ k m. ⊎-elim (λ q. same k q) (λ m. other k m) (eq-or-lt-of-le {n = k} {m = i} (omega arith)) }
+    where
+      same : (k : ℕ) → k ≡ i → getD (set xs i x) k z ≡ f k
+      same k q = rw q (getD-set-same xs i x z (omega (arith, h .long)) ∙ e)
+
+      other : (k : ℕ) → k < i → getD (set xs i x) k z ≡ f k
+      other k m = getD-set-other xs i k x z (λ q. omega arith) ∙ h .each k m
+
+  pub filled-at : (i k : ℕ) → Filled z size f i xs → k < i → getD xs k z ≡ f k
+  filled-at i k h l = h .each k l
+
+  pub filled-all : (i n : ℕ) → Filled z size f i xs → i ≤ n → n ≤ i → Filled z size f n xs
+  filled-all i n h l m = let q : i ≡ n = omega arith in rw q at h
+
+pub ruleset filling = (filled-none, filled-more, filled-at, filled-all)

@@ -1,0 +1,31 @@
+-- `write::processors::keeping` meets its contract. The loop's invariant: the update keeps for no processor passed.
+use mathlib.Core.Path.{_≡_}
+use mathlib.Core.Bool.{false}
+use Prim.Native.Nat.{_≤_, _-_}
+use lib.ListN.{length}
+use borrow.Author.Needs.{needs}
+use Rattle.laws.specs.Below.{anyBelow}
+use Rattle.write.specs.Covered.{keepsBy, marking}
+use Rattle.write.proofs.processors.keeping.Statement.{statement}
+use Rattle.write.proofs.processors.keeping.Tie as tie
+
+abbrev Inv-loop : tie.InvT-loop
+Inv-loop signatures platforms u d n marks i₀ i = (i ≤ length signatures) × (anyBelow i (keepsBy signatures platforms marks u) ≡ false)
+
+abbrev μ-loop : tie.MeasureT-loop
+μ-loop signatures platforms u d n marks i₀ i = length signatures - i
+
+pub keeping-spec : {M : Type 1} → statement M
+keeping-spec =
+    tie.close
+    (tie.spec
+    Inv-loop
+    μ-loop
+    (λ c. search (needs, marking))
+    (λ c. search needs)
+    (λ c κs. search needs)
+    (λ c. search (needs, marking))
+    (λ c. search needs)
+    (λ c. search needs)
+    (λ c. search (needs, marking))
+    (λ c. search (needs, marking)))

@@ -1,0 +1,5 @@
+-- The write call (document 01, "The calls", 1).
+pub mod Covered
+pub mod ListLaws
+pub mod Marks
+pub mod Write
