@@ -2,3 +2,12 @@
 pub mod Processors
 pub mod Legal
 pub mod Bytes
+pub mod After
+pub mod ByteLaws
+pub mod FreeLaws
+pub mod KeptLaws
+pub mod PlacedLaws
+pub mod AfterLaws
+pub mod Paste
+pub mod Cleared
+pub mod Marks

@@ -5,7 +5,7 @@
 --   keeping      the update covers a listed processor that the candidate doesn't cover
 --   Keeps        the same in words; `keeps-law` joins the two
 use Prim.Native.Nat.{ℕ, _<_}
-use mathlib.Core.Path.{_≡_, refl, sym, _∙_}
+use mathlib.Core.Path.{_≡_, refl}
 use mathlib.Core.Bool.{Bool, true, false, not, _&&_}
 use mathlib.Core.List.{List}
 use mathlib.Core.Logic.{_↔_}

@@ -2,4 +2,5 @@
 pub mod Covered
 pub mod ListLaws
 pub mod Marks
+pub mod MarkLaws
 pub mod Write

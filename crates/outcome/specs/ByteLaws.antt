@@ -1,0 +1,106 @@
+-- Laws of an outcome's bytes.
+--   length-tabulate, getD-tabulate     what `tabulate` makes
+--   emptied-at, at-emptied             a block is emptied exactly if it has an owner of the set
+--   emptied-same                       the set matters only where it has, or has not, the owner of the block
+--   run-at, at-run, not-run            a block is in the run exactly if it lies between its ends
+--   outcome-length                     an outcome is as long as the old store
+--   outcome-run .. outcome-out         its byte in the run, in an emptied update, elsewhere, and outside the run
+use Prim.Native.Nat.{ℕ, zero, suc, _+_, _*_, _-_, _/_, _<_, _≤_}
+use mathlib.Core.Path.{_≡_, refl, sym, ap, _∙_}
+use mathlib.Core.Bool.{Bool, true, false, _&&_}
+use mathlib.Core.List.{List}
+use mathlib.Core.Logic.{_⊎_, inl, inr}
+use native.Mathlib.Nat.{not-suc-le-zero, add-zero}
+use native.Mathlib.Omega.{arith}
+use lib.ListN.{length, getD}
+use lib.Dec.{leb, ltb}
+use borrow.Author.Tests.{leb-true, ltb-true, le-leb, lt-ltb}
+use Rattle.laws.specs.Bools.{and-true, and-i, and-false-r, no-true}
+use Rattle.laws.specs.Below.{any-at, any-stop, any-cong}
+use Rattle.laws.specs.Unless.{unless}
+use Rattle.update.specs.Sizes.{blocksOf}
+use Rattle.store.specs.Scan.{sizeAt, first}
+use Rattle.store.specs.Valid.{Owned}
+use Rattle.outcome.specs.Bytes.{tabulate, ownedBy, emptiedAt, inRun, runByte, clearedByte, outcomeByte, outcomeBytes}
+
+pub length-tabulate : (n a : ℕ) (f : ℕ → ℕ) → length (tabulate n a f) ≡ n
+unfolding tabulate
+length-tabulate zero a f = refl
+length-tabulate (suc n) a f = ap suc (length-tabulate n (suc a) f)
+
+tabulate-from : (n a : ℕ) (f : ℕ → ℕ) (i : ℕ) → i < n → getD (tabulate n a f) i 0 ≡ f (a + i)
+unfolding tabulate
+tabulate-from zero a f i l = absurd (not-suc-le-zero l)
+tabulate-from (suc n) a f zero l = rw (add-zero a)
+tabulate-from (suc n) a f (suc i) l = tabulate-from n (suc a) f i (omega arith) ∙ ap f (let e : suc a + i ≡ a + suc i = omega arith in e)
+
+pub getD-tabulate : (n : ℕ) (f : ℕ → ℕ) (i : ℕ) → i < n → getD (tabulate n 0 f) i 0 ≡ f i
+getD-tabulate n f i l = tabulate-from n 0 f i l ∙ ap f (let e : 0 + i ≡ i = omega arith in e)
+
+module _ (s : List ℕ) where
+  -- the update at b, of whatever set, has block c
+  owner : (c b : ℕ) → first s b && leb b c && ltb c (b + sizeAt s b) ≡ true → Owned s (first s) b c
+  owner c b h =
+      let x = and-true (first s b && leb b c) (ltb c (b + sizeAt s b)) h in
+      let y = and-true (first s b) (leb b c) (x .0) in
+      record { at = y .0; from = leb-true b c (y .1); upto = ltb-true c (b + sizeAt s b) (x .1) }
+
+  pub emptied-at : (e : ℕ → Bool) (c : ℕ) → emptiedAt s e c ≡ true → (b : ℕ) × (e b ≡ true) × Owned s (first s) b c
+  unfolding emptiedAt ownedBy
+  emptied-at e c h =
+      let w = any-at (ownedBy s e c) (suc c) h in
+      let x = and-true (e (w .0)) (first s (w .0) && leb (w .0) c && ltb c (w .0 + sizeAt s (w .0))) (w .2) in
+      (w .0, x .0, owner c (w .0) (x .1))
+
+  pub at-emptied : (e : ℕ → Bool) (c b : ℕ) → e b ≡ true → Owned s (first s) b c → emptiedAt s e c ≡ true
+  unfolding emptiedAt ownedBy
+  at-emptied e c b h o =
+      any-stop (ownedBy s e c) (suc c) b (omega (arith, o .from)) (rw (h, o .at, le-leb b c (o .from), lt-ltb c (b + sizeAt s b) (o .upto)))
+
+  pub emptied-same : (e f : ℕ → Bool) (c : ℕ) → ((b : ℕ) → Owned s (first s) b c → e b ≡ f b) → emptiedAt s e c ≡ emptiedAt s f c
+  unfolding emptiedAt ownedBy
+  emptied-same e f c h = any-cong (ownedBy s e c) (ownedBy s f c) (suc c) (λ k l. go k (first s k && leb k c && ltb c (k + sizeAt s k)) refl)
+    where
+      go : (k : ℕ) (t : Bool) → first s k && leb k c && ltb c (k + sizeAt s k) ≡ t → e k && t ≡ f k && t
+      go k true q = rw (h k (owner c k q))
+      go k false q = and-false-r (e k) ∙ sym (and-false-r (f k))
+
+module _ (start k c : ℕ) where
+  pub run-at : inRun start k c ≡ true → (start ≤ c) × (c < start + k)
+  unfolding inRun
+  run-at h = let x = and-true (leb start c) (ltb c (start + k)) h in (leb-true start c (x .0), ltb-true c (start + k) (x .1))
+
+  pub at-run : start ≤ c → c < start + k → inRun start k c ≡ true
+  unfolding inRun
+  at-run l m = and-i (le-leb start c l) (lt-ltb c (start + k) m)
+
+  pub not-run : (c < start) ⊎ (start + k ≤ c) → inRun start k c ≡ false
+  not-run (inl l) = no-true (inRun start k c) (λ h. omega (arith, run-at h .0))
+  not-run (inr l) = no-true (inRun start k c) (λ h. omega (arith, run-at h .1))
+
+-- each byte by its block
+module _ (old : List ℕ) (t : ℕ) (cand : List ℕ) (start : ℕ) (e : ℕ → Bool) where
+  pub outcome-length : length (outcomeBytes old t cand start e) ≡ length old
+  unfolding outcomeBytes
+  outcome-length = length-tabulate (length old) 0 (outcomeByte old t cand start e)
+
+  module _ (c i : ℕ) (l : i < length old) (q : i / 2048 ≡ c) where
+    outcome-at : getD (outcomeBytes old t cand start e) i 0 ≡ unless (inRun start (blocksOf t) c) (clearedByte old e i) (runByte t cand (i - start * 2048))
+    unfolding outcomeBytes outcomeByte
+    outcome-at = getD-tabulate (length old) (outcomeByte old t cand start e) i l ∙ rw q
+
+    pub outcome-run : inRun start (blocksOf t) c ≡ true → getD (outcomeBytes old t cand start e) i 0 ≡ runByte t cand (i - start * 2048)
+    unfolding unless
+    outcome-run h = outcome-at ∙ rw h
+
+    pub outcome-out : inRun start (blocksOf t) c ≡ false → getD (outcomeBytes old t cand start e) i 0 ≡ clearedByte old e i
+    unfolding unless
+    outcome-out h = outcome-at ∙ rw h
+
+    pub outcome-emptied : inRun start (blocksOf t) c ≡ false → emptiedAt old e c ≡ true → getD (outcomeBytes old t cand start e) i 0 ≡ 255
+    unfolding clearedByte unless
+    outcome-emptied h g = outcome-out h ∙ rw (q, g)
+
+    pub outcome-kept : inRun start (blocksOf t) c ≡ false → emptiedAt old e c ≡ false → getD (outcomeBytes old t cand start e) i 0 ≡ getD old i 0
+    unfolding clearedByte unless
+    outcome-kept h g = outcome-out h ∙ rw (q, g)

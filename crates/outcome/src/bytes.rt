@@ -1,0 +1,85 @@
+// The bytes of an outcome, written into the store.
+ghost use mathlib.Core.Path.{_≡_};
+ghost use Prim.Native.Nat.{_+_, _*_, _≤_};
+ghost use lib.ListN.{length};
+ghost use Rattle.update.specs.Sizes.{blocksOf};
+ghost use Rattle.outcome.specs.Bytes.{outcomeBytes};
+ghost use Rattle.outcome.specs.Paste.{putAt, fillAt};
+ghost use Rattle.outcome.specs.Cleared.{cleared};
+ghost use Rattle.outcome.specs.Marks.{marked, Entries, emptyIf};
+
+// The `count` bytes from `from` on become FFh.
+pub fn fill(store: &mut [u8], from: usize, count: usize)
+    requires { ⌜ from + count ≤ length (now store) ⌝ }
+    ensures { λ _. ⌜ now (store .exit) ≡ fillAt (now (store .entry)) from count ⌝ }
+{
+    let mut i: usize = 0;
+    while i < count {
+        store[from + i] = 255;
+        i += 1;
+    }
+}
+
+// The first `t` bytes of `cand` are put at `at`.
+pub fn put(store: &mut [u8], at: usize, cand: &[u8], t: usize)
+    requires { ⌜ at + t ≤ length (now store) ⌝ }
+    requires { ⌜ t ≤ length (now cand) ⌝ }
+    ensures { λ _. ⌜ now (store .exit) ≡ putAt (now (store .entry)) at (now (cand .entry)) t ⌝ }
+{
+    let mut i: usize = 0;
+    while i < t {
+        store[at + i] = cand[i];
+        i += 1;
+    }
+}
+
+// The update of `size` blocks from `start` on is emptied, if it is marked.
+fn empty_if(gone: bool, store: &mut [u8], start: u32, size: u32)
+    requires { ⌜ start * 2048 + size * 2048 ≤ length (now store) ⌝ }
+    ensures { λ _. ⌜ now (store .exit) ≡ emptyIf gone (now (store .entry)) start size ⌝ }
+{
+    if gone {
+        fill(store, start as usize * 2048, size as usize * 2048);
+    }
+}
+
+// The marked ones of the first `count` entries are emptied.
+fn empty_marked(
+    store: &mut [u8],
+    starts: [u32; 32],
+    sizes: [u32; 32],
+    gone: [bool; 32],
+    count: usize,
+)
+    requires { ⌜ Entries (now store) starts sizes count ⌝ }
+    ensures { λ _. ⌜ now (store .exit) ≡ cleared (now (store .entry)) (marked starts gone count) ⌝ }
+{
+    let mut i: usize = 0;
+    while i < count {
+        empty_if(gone[i], store, starts[i], sizes[i]);
+        i += 1;
+    }
+}
+
+// All the bytes of a write: the marked ones of the first `count` entries are emptied, and the candidate's `t` bytes stand at block `start`, FFh
+// behind them to the end of its last block.
+pub fn write_bytes(
+    store: &mut [u8],
+    starts: [u32; 32],
+    sizes: [u32; 32],
+    gone: [bool; 32],
+    count: usize,
+    start: u32,
+    cand: &[u8],
+    t: usize,
+)
+    requires { ⌜ Entries (now store) starts sizes count ⌝ }
+    requires { ⌜ t ≤ length (now cand) ⌝ }
+    requires { ⌜ (start + blocksOf t) * 2048 ≤ length (now store) ⌝ }
+    ensures { λ _. ⌜ now (store .exit) ≡ outcomeBytes (now (store .entry)) t (now (cand .entry)) start (marked starts gone count) ⌝ }
+{
+    empty_marked(store, starts, sizes, gone, count);
+    let at = start as usize * 2048;
+    fill(store, at, (t + 2047) / 2048 * 2048);
+    put(store, at, cand, t);
+}

@@ -1,0 +1,150 @@
+-- The marks as the code keeps them, and how they stand for those of the definitions.
+--   Shared, Marks      an array of marks beside the directory's entries is right
+--   marked-entry       a turn of the loop that marks, as `search` takes it
+--   outdating          the scan for an update that isn't older, as `search` takes it
+--   held-same          the choice of a run goes by the marks below the count, and no others
+use Prim.Native.Nat.{ℕ, zero, suc, _+_, _-_, _<_, _≤_}
+use mathlib.Core.Path.{_≡_, refl, sym, ap, _∙_}
+use mathlib.Core.Bool.{Bool, true, false, cond, not, _&&_, _||_}
+use mathlib.Core.List.{List}
+use native.Mathlib.Omega.{arith}
+use lib.ListN.{length, getD}
+use lib.Dec.{leb}
+use Rattle.laws.specs.Below.{anyBelow, any-none, any-more, any-stop, any-cong}
+use Rattle.laws.specs.Loops.{scan-done}
+use Rattle.laws.specs.Count.{countBelow, count-cong}
+use Rattle.laws.specs.Least.{Pick, nowhere, at, better, least}
+use Rattle.laws.specs.Arrays.{Filled, filled-all}
+use Rattle.update.specs.Fields.{revision}
+use Rattle.update.specs.Shares.{shares}
+use Rattle.store.specs.Blocks.{fromBlock, blockCount}
+use Rattle.store.specs.Scan.{directory}
+use Rattle.store.specs.DirectoryLaws.{startOf, sizeOf}
+use Rattle.store.specs.StoreLaws.{directory-few}
+use Rattle.store.specs.declared.directory.Directory.{Directory}
+use Rattle.placement.specs.Held.{Held}
+use Rattle.placement.specs.Choose.{touches, goes, bars, loses, barred, lost, torn, choose}
+use Rattle.placement.specs.Marks.{held}
+use Rattle.placement.specs.declared.Marked.{Marked}
+use Rattle.outcome.specs.Processors.{coversListed, keeping}
+use Rattle.write.specs.Covered.{Covered, keepsBy, keeping-is}
+use Rattle.write.specs.Marks.{updateAt, sharesEntry, keepsEntry, heldIn, outdates, outdated}
+
+pub record Shared (old cand : List ℕ) (m : Marked) : Type 0 where
+  pub starts : m .starts ≡ directory old .starts
+  pub sizes : m .sizes ≡ directory old .sizes
+  pub count : m .count ≡ directory old .count
+  pub few : m .count ≤ 32
+  pub marks : Filled false 32 (sharesEntry old cand) (m .count) (m .shares)
+
+pub record Marks (old signatures platforms cand : List ℕ) (m : Marked) : Type 0 where
+  pub shared : Shared old cand m
+  pub keeps : Filled false 32 (keepsEntry old signatures platforms cand) (m .count) (m .keeps)
+
+-- a turn: d is the directory, u the part at the start of entry i
+module _ (old u cand : List ℕ) (d : Directory) (i : ℕ) (r : Bool) (e : d ≡ directory old) (part : u ≡ fromBlock old (getD (d .starts) i 0)) where
+  pub shares-is : r ≡ shares u cand → r ≡ sharesEntry old cand i
+  unfolding sharesEntry
+  shares-is h = h ∙ rw (part, e)
+
+  pub keeps-is : (signatures platforms : List ℕ) (marks : List Bool) → Covered signatures platforms cand marks → r ≡ anyBelow (length signatures) (keepsBy signatures platforms marks u) → r ≡ keepsEntry old signatures platforms cand i
+  unfolding keepsEntry
+  keeps-is signatures platforms marks right h = keeping-is signatures platforms cand marks right u r h ∙ rw (part, e)
+
+-- the loop's end
+pub marks-made : (old signatures platforms cand : List ℕ) (d : Directory) (i : ℕ) (xs ys : List Bool) → d ≡ directory old → d .count ≤ 32
+    → Filled false 32 (sharesEntry old cand) i xs → Filled false 32 (keepsEntry old signatures platforms cand) i ys → i ≤ d .count → d .count ≤ i
+    → Marks old signatures platforms cand (record { starts = d .starts; sizes = d .sizes; shares = xs; keeps = ys; count = d .count })
+marks-made old signatures platforms cand d i xs ys e few a b l m =
+    record {
+      shared = record { starts = rw e; sizes = rw e; count = rw e; few = few; marks = filled-all false 32 (sharesEntry old cand) xs i (d .count) a l m };
+      keeps = filled-all false 32 (keepsEntry old signatures platforms cand) ys i (d .count) b l m;
+    }
+
+-- one update: v is the revision that a call read from the part u
+pub outdates-yes : (old u : List ℕ) (start new v : ℕ) (t : Bool) → t ≡ true → u ≡ fromBlock old start → v ≡ revision u → leb new v ≡ t && leb new (revision (fromBlock old start))
+outdates-yes old u start new v t h e k = rw (h, k, e)
+
+-- the scan: r is what a call answered of mark and start of entry i
+module _ (old cand : List ℕ) (m : Marked) (i new : ℕ) (r : Bool) (right : Shared old cand m) (e : new ≡ revision cand) (l : i < m .count)
+    (h : r ≡ getD (m .shares) i false && leb new (revision (fromBlock old (getD (m .starts) i 0)))) where
+  outdates-is : r ≡ outdates old cand i
+  unfolding outdates
+  outdates-is = h ∙ rw (right .marks .each i l, e, right .starts)
+
+  pub outdate-more : anyBelow i (outdates old cand) ≡ false → r ≡ false → anyBelow (i + 1) (outdates old cand) ≡ false
+  outdate-more k o = any-more (outdates old cand) i k (sym outdates-is ∙ o)
+
+  pub outdate-stop : r ≡ true → true ≡ outdated old cand
+  unfolding outdated
+  outdate-stop t = sym (any-stop (outdates old cand) (directory old .count) i (rw (right .count) at l) (sym outdates-is ∙ t))
+
+pub outdate-done : (old cand : List ℕ) (m : Marked) (i : ℕ) → Shared old cand m → anyBelow i (outdates old cand) ≡ false → i ≤ m .count → m .count ≤ i → false ≡ outdated old cand
+unfolding outdated
+outdate-done old cand m i right h p q = scan-done (outdates old cand) i (m .count) (directory old .count) (right .count) p q h
+
+pub ruleset outdating = (any-none, outdate-more, outdate-stop, outdate-done)
+
+-- two tables of updates that agree below the count
+pub record Agree (g h : Held) : Type 0 where
+  pub count : g .count ≡ h .count
+  pub start : (i : ℕ) → i < g .count → g .start i ≡ h .start i
+  pub size : (i : ℕ) → i < g .count → g .size i ≡ h .size i
+  pub shares : (i : ℕ) → i < g .count → g .shares i ≡ h .shares i
+  pub keeps : (i : ℕ) → i < g .count → g .keeps i ≡ h .keeps i
+
+least-cong : (p q : ℕ → Bool) (f g : ℕ → ℕ) (k : ℕ) → ((s : ℕ) → p s ≡ q s) → ((s : ℕ) → f s ≡ g s) → least p f k ≡ least q g k
+unfolding least
+least-cong p q f g zero a b = refl
+least-cong p q f g (suc k) a b = rw (least-cong p q f g k a b, a k, b k)
+
+module _ (g h : Held) (a : Agree g h) where
+  touches-same : (k s i : ℕ) → i < g .count → touches g k s i ≡ touches h k s i
+  unfolding touches
+  touches-same k s i l = rw (a .start i l, a .size i l)
+
+  pub goes-same : (k s i : ℕ) → i < g .count → goes g k s i ≡ goes h k s i
+  unfolding goes
+  goes-same k s i l = rw (a .shares i l, touches-same k s i l)
+
+  bars-same : (k s i : ℕ) → i < g .count → bars g k s i ≡ bars h k s i
+  unfolding bars
+  bars-same k s i l = rw (a .keeps i l, goes-same k s i l)
+
+  loses-same : (k s i : ℕ) → i < g .count → loses g k s i ≡ loses h k s i
+  unfolding loses
+  loses-same k s i l = rw (a .shares i l, touches-same k s i l)
+
+  barred-same : (k s : ℕ) → barred g k s ≡ barred h k s
+  unfolding barred
+  barred-same k s = any-cong (bars g k s) (bars h k s) (g .count) (bars-same k s) ∙ rw (a .count)
+
+  lost-same : (k s : ℕ) → lost g k s ≡ lost h k s
+  unfolding lost
+  lost-same k s = count-cong (loses g k s) (loses h k s) (g .count) (loses-same k s) ∙ rw (a .count)
+
+  pub choose-same : (n k : ℕ) → choose n k g ≡ choose n k h
+  unfolding choose
+  choose-same n k = least-cong (barred g k) (barred h k) (lost g k) (lost h k) (suc n - k) (barred-same k) (lost-same k)
+
+  pub shared-same : countBelow (g .count) (g .shares) ≡ countBelow (h .count) (h .shares)
+  shared-same = count-cong (g .shares) (h .shares) (g .count) (a .shares) ∙ rw (a .count)
+
+  torn-at : (i : ℕ) → i < g .count → torn g i ≡ torn h i
+  unfolding torn
+  torn-at i l = rw (a .shares i l, a .keeps i l)
+
+  pub torn-same : anyBelow (g .count) (torn g) ≡ anyBelow (h .count) (torn h)
+  torn-same = any-cong (torn g) (torn h) (g .count) torn-at ∙ rw (a .count)
+
+pub held-same : (old signatures platforms cand : List ℕ) (m : Marked) → Marks old signatures platforms cand m → Agree (held m) (heldIn old signatures platforms cand)
+unfolding held heldIn
+held-same old signatures platforms cand m right =
+    let s = right .shared in
+    record {
+      count = s .count;
+      start = λ i l. rw (s .starts);
+      size = λ i l. rw (s .sizes);
+      shares = λ i l. s .marks .each i l;
+      keeps = λ i l. right .keeps .each i l;
+    }
