@@ -4,3 +4,4 @@ pub mod ListLaws
 pub mod Marks
 pub mod MarkLaws
 pub mod Write
+pub mod Demand
