@@ -1,12 +1,13 @@
 // The choice of a run of blocks for a new update. `k` is the number of blocks that it takes, `s` a start block.
 ghost use mathlib.Core.Path.{_≡_};
-ghost use mathlib.Core.Bool.{cond, not, _&&_, _||_};
+ghost use mathlib.Core.Bool.{false, cond, not, _&&_, _||_};
 ghost use Prim.Native.Nat.{_+_, _≤_};
 ghost use lib.Dec.{ltb};
 ghost use Rattle.laws.specs.Below.{anyBelow};
 ghost use Rattle.laws.specs.Count.{countBelow};
 ghost use Rattle.laws.specs.Least.{better};
-ghost use Rattle.placement.specs.Choose.{barred, lost, torn, choose};
+ghost use Rattle.laws.specs.Arrays.{Filled};
+ghost use Rattle.placement.specs.Choose.{goes, barred, lost, torn, choose};
 ghost use Rattle.placement.specs.Marks.{held, choiceOf, pickOf};
 
 // The stored updates in the order of their starts: update i < count starts at a block, has a size in blocks, and two marks against the
@@ -36,16 +37,23 @@ fn touches(start: u32, size: u32, k: u32, s: u32) -> bool
     }
 }
 
+// Is the update emptied if the candidate goes to `s`?
+fn goes(start: u32, size: u32, shares: bool, k: u32, s: u32) -> bool
+    ensures { λ r. ⌜ r ≡ shares || (ltb s (start + size) && ltb start (s + k)) ⌝ }
+{
+    if shares {
+        true
+    } else {
+        touches(start, size, k, s)
+    }
+}
+
 // Would the update be emptied, and must it not be?
 fn bars(start: u32, size: u32, shares: bool, keeps: bool, k: u32, s: u32) -> bool
     ensures { λ r. ⌜ r ≡ keeps && (shares || (ltb s (start + size) && ltb start (s + k))) ⌝ }
 {
     if keeps {
-        if shares {
-            true
-        } else {
-            touches(start, size, k, s)
-        }
+        goes(start, size, shares, k, s)
     } else {
         false
     }
@@ -178,4 +186,18 @@ pub fn shared(m: Marked) -> u32
         }
     }
     sharing
+}
+
+// Marks the updates that are emptied if the candidate goes to `s`.
+pub fn emptied(m: Marked, k: u32, s: u32) -> [bool; 32]
+    requires { ⌜ m .count ≤ 32 ⌝ }
+    ensures { λ r. ⌜ Filled false 32 (goes (held m) k s) (m .count) r ⌝ }
+{
+    let mut gone = [false; 32];
+    let mut i: usize = 0;
+    while i < m.count {
+        gone[i] = goes(m.starts[i], m.sizes[i], m.shares[i], k, s);
+        i += 1;
+    }
+    gone
 }

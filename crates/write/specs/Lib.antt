@@ -5,3 +5,5 @@ pub mod Marks
 pub mod MarkLaws
 pub mod Write
 pub mod Demand
+pub mod PlanLaws
+pub mod PlanCases

@@ -1,6 +1,6 @@
 -- The processor list's rule, a return at each test (`listed`), as `search` takes it.
 use Prim.Native.Nat.{ℕ, _<_, _≤_}
-use mathlib.Core.Path.{_≡_, sym, _∙_}
+use mathlib.Core.Path.{_≡_, refl, sym, _∙_}
 use mathlib.Core.Bool.{Bool, true, false, _&&_}
 use mathlib.Core.List.{List}
 use native.Mathlib.Omega.{arith}
@@ -63,3 +63,12 @@ good-list signatures platforms r e h =
     let b = and-true (eqb (length signatures) (length platforms) && leb 1 (length signatures)) (leb (length signatures) 8) (a .0) in
     let c = and-true (eqb (length signatures) (length platforms)) (leb 1 (length signatures)) (b .0) in
     record { same = eqb-true _ _ (c .0); some = leb-true _ _ (c .1); few = leb-true _ _ (b .1) }
+
+pub list-few : (signatures platforms : List ℕ) → listOk signatures platforms ≡ true → length signatures ≤ 8
+list-few signatures platforms h = good-list signatures platforms (listOk signatures platforms) refl h .few
+
+pub list-same : (signatures platforms : List ℕ) → listOk signatures platforms ≡ true → length signatures ≡ length platforms
+list-same signatures platforms h = good-list signatures platforms (listOk signatures platforms) refl h .same
+
+pub list-right : (signatures platforms : List ℕ) (r : Bool) → r ≡ listOk signatures platforms → r ≡ true → listOk signatures platforms ≡ true
+list-right signatures platforms r e h = sym e ∙ h

@@ -1,0 +1,42 @@
+-- `placement::emptied` meets its contract. The loop's invariant: the marks passed are right.
+use mathlib.Core.Path.{refl}
+use mathlib.Core.Bool.{false}
+use Prim.Native.Nat.{_≤_, _-_}
+use native.Mathlib.Omega.{arith}
+use borrow.Author.Needs.{needs}
+use Rattle.laws.specs.Arrays.{Filled, filled-none, filled-more, filled-all}
+use Rattle.placement.specs.Choose.{touches, goes}
+use Rattle.placement.specs.Marks.{held}
+use Rattle.placement.proofs.emptied.Statement.{statement}
+use Rattle.placement.proofs.emptied.Tie as tie
+
+abbrev Inv-loop : tie.InvT-loop
+Inv-loop k s m gone₀ i₀ gone i = (i ≤ m .count) × Filled false 32 (goes (held m) k s) i gone
+
+abbrev μ-loop : tie.MeasureT-loop
+μ-loop k s m gone₀ i₀ gone i = m .count - i
+
+loop-again : tie.Need-loop-again Inv-loop μ-loop
+unfolding goes touches held
+loop-again c =
+    let at = c .before .before .before .before .before in
+    (omega arith, filled-more _ _ _ _ _ _ (at .loop .inv .1) (omega arith) (c .goes .ensures))
+
+pub emptied-spec : {M : Type 1} → statement M
+emptied-spec =
+    tie.close
+    (tie.spec
+    Inv-loop
+    μ-loop
+    (λ c. (omega arith, filled-none _ _ _ _ refl))
+    (search needs)
+    (search needs)
+    (search needs)
+    (search needs)
+    (search needs)
+    (search needs)
+    (search needs)
+    (search needs)
+    (search needs)
+    loop-again
+    (λ c. search (needs, filled-all)))

@@ -1,0 +1,97 @@
+-- The order of checks 1 to 8, a return at each, as `search` takes them.
+--   goods     checks 5 to 8
+--   plans     checks 1 to 4
+use Prim.Native.Nat.{ℕ, _/_, _≤_}
+use mathlib.Core.Path.{_≡_, refl, sym, ap, _∙_}
+use mathlib.Core.Bool.{Bool, true, false, not}
+use mathlib.Core.List.{List}
+use native.Mathlib.Omega.{arith}
+use lib.ListN.{length}
+use Rattle.laws.specs.Below.{anyBelow}
+use Rattle.laws.specs.Count.{countBelow}
+use Rattle.laws.specs.Least.{Pick, nowhere, at}
+use Rattle.laws.specs.Unless.{unless}
+use Rattle.update.specs.Verdict.{verdict}
+use Rattle.update.specs.declared.verdict.Verdict.{Verdict}
+use Rattle.update.specs.declared.verdict.Verdict.the-variants.{Good, BadHeader, BadSum}
+use Rattle.store.specs.Blocks.{blockCount}
+use Rattle.store.specs.Scan.{storeOk, directory}
+use Rattle.store.specs.StoreLaws.{directory-ok}
+use Rattle.store.specs.ValidLaws.{store-valid}
+use Rattle.store.specs.declared.directory.Directory.{Directory}
+use Rattle.placement.specs.Held.{Held}
+use Rattle.placement.specs.Choose.{torn, choose}
+use Rattle.placement.specs.Marks.{held}
+use Rattle.placement.specs.declared.Marked.{Marked}
+use Rattle.outcome.specs.Processors.{listOk, coversOne}
+use Rattle.calls.specs.Answers.{refusal}
+use Rattle.calls.specs.declared.answer.Answer.{Answer}
+use Rattle.write.specs.Covered.{Covered, coveredIn, one-is}
+use Rattle.write.specs.Marks.{heldIn, outdated}
+use Rattle.write.specs.MarkLaws.{Marks, Agree, held-same, choose-same, shared-same, torn-same}
+use Rattle.write.specs.Write.{placed, goodAnswer, judgedAnswer, planAnswer}
+
+-- a valid store has at most 32 blocks and 65,536 bytes
+pub blocks-few : (old : List ℕ) (d : Directory) → d ≡ directory old → d .ok ≡ true → length old / 2048 ≤ 32
+blocks-few old d e h = let v = store-valid old (sym (directory-ok old d e) ∙ h) in omega (arith, v .long, v .few)
+
+placed-same : (g h : Held) (p : Pick) → Agree g h → placed g p ≡ placed h p
+unfolding placed
+placed-same g h nowhere a = refl
+placed-same g h (at s c) a = rw (shared-same g h a)
+
+module _ (old signatures platforms cand : List ℕ) (k : ℕ) (marks : List Bool) (z : Answer) (r : Bool) (right : Covered signatures platforms cand marks)
+    (e : r ≡ anyBelow (length signatures) (coveredIn marks)) where
+  pub good-absent : r ≡ false → z ≡ refusal 0x94 0 → z ≡ goodAnswer old signatures platforms cand k
+  unfolding goodAnswer unless
+  good-absent h q = rw (← one-is signatures platforms cand marks right r e, h) q
+
+  module _ (present : r ≡ true) (o : Bool) (f : o ≡ outdated old cand) where
+    pub good-outdated : o ≡ true → z ≡ refusal 0x98 0 → z ≡ goodAnswer old signatures platforms cand k
+    unfolding goodAnswer unless
+    good-outdated h q = rw (← one-is signatures platforms cand marks right r e, present, ← f, h) q
+
+    module _ (newer : o ≡ false) (m : Marked) (t : Bool) (g : t ≡ anyBelow (m .count) (torn (held m))) (y : Marks old signatures platforms cand m) where
+      torn-is : t ≡ anyBelow (heldIn old signatures platforms cand .count) (torn (heldIn old signatures platforms cand))
+      unfolding held
+      torn-is = g ∙ torn-same (held m) (heldIn old signatures platforms cand) (held-same old signatures platforms cand m y)
+
+      pub good-torn : t ≡ true → z ≡ refusal 0x93 4 → z ≡ goodAnswer old signatures platforms cand k
+      unfolding goodAnswer unless
+      good-torn h q = rw (← one-is signatures platforms cand marks right r e, present, ← f, newer, ← torn-is, h) q
+
+      pub good-placed : t ≡ false → z ≡ placed (held m) (choose (length old / 2048) k (held m)) → z ≡ goodAnswer old signatures platforms cand k
+      unfolding goodAnswer unless blockCount
+      good-placed h q =
+          let a = held-same old signatures platforms cand m y in
+          rw (← one-is signatures platforms cand marks right r e, present, ← f, newer, ← torn-is, h)
+          (q ∙ placed-same (held m) (heldIn old signatures platforms cand) (choose (length old / 2048) k (held m)) a
+          ∙ ap (placed (heldIn old signatures platforms cand)) (choose-same (held m) (heldIn old signatures platforms cand) a (length old / 2048) k))
+
+pub ruleset goods = (good-absent, good-outdated, good-torn, good-placed)
+
+-- d is the directory that was read, l what the list's rule answered, v the verdict
+module _ (old signatures platforms cand : List ℕ) (d : Directory) (z : Answer) (e : d ≡ directory old) where
+  pub plan-bad : d .ok ≡ false → z ≡ refusal 0x92 1 → z ≡ planAnswer old signatures platforms cand
+  unfolding planAnswer unless
+  plan-bad h q = rw (← directory-ok old d e, h) q
+
+  module _ (ok : d .ok ≡ true) (l : Bool) (f : l ≡ listOk signatures platforms) where
+    pub plan-list : l ≡ false → z ≡ refusal 0x92 2 → z ≡ planAnswer old signatures platforms cand
+    unfolding planAnswer unless
+    plan-list h q = rw (← directory-ok old d e, ok, ← f, h) q
+
+    module _ (good : l ≡ true) (v : Verdict) (g : v ≡ verdict cand) where
+      pub plan-header : v ≡ BadHeader → z ≡ refusal 0x95 0 → z ≡ planAnswer old signatures platforms cand
+      unfolding planAnswer unless judgedAnswer
+      plan-header h q = rw (← directory-ok old d e, ok, ← f, good, ← g, h) q
+
+      pub plan-sum : v ≡ BadSum → z ≡ refusal 0x96 0 → z ≡ planAnswer old signatures platforms cand
+      unfolding planAnswer unless judgedAnswer
+      plan-sum h q = rw (← directory-ok old d e, ok, ← f, good, ← g, h) q
+
+      pub plan-good : (t b n k : ℕ) → v ≡ Good t b n k → z ≡ goodAnswer old signatures platforms cand k → z ≡ planAnswer old signatures platforms cand
+      unfolding planAnswer unless judgedAnswer
+      plan-good t b n k h q = rw (← directory-ok old d e, ok, ← f, good, ← g, h) q
+
+pub ruleset plans = (plan-bad, plan-list, plan-header, plan-sum, plan-good)

@@ -1,0 +1,100 @@
+-- Laws of the plan: the answers of checks 1 to 8 as the code takes them.
+--   NoWrite, Marking    an answer is no written one; the marks are right where it is one
+--   placing             check 8, as `search` takes it
+--   planning            checks 1 to 7, as `search` takes them
+use Prim.Native.Nat.{ℕ, zero, suc, _+_, _-_, _/_, _<_, _≤_}
+use mathlib.Core.Path.{_≡_, refl, sym, ap, _∙_, subst}
+use mathlib.Core.Bool.{Bool, true, false, cond, not, _&&_}
+use mathlib.Core.List.{List}
+use native.Mathlib.Omega.{arith}
+use lib.ListN.{length}
+use Rattle.laws.specs.Below.{anyBelow}
+use Rattle.laws.specs.Count.{countBelow}
+use Rattle.laws.specs.Least.{Pick, nowhere, at, least, IsLeast, Promised, least-promised}
+use Rattle.laws.specs.Unless.{unless}
+use Rattle.update.specs.Verdict.{verdict}
+use Rattle.update.specs.declared.verdict.Verdict.{Verdict}
+use Rattle.update.specs.declared.verdict.Verdict.the-variants.{Good, BadHeader, BadSum}
+use Rattle.store.specs.Blocks.{blockCount}
+use Rattle.store.specs.Scan.{storeOk, directory}
+use Rattle.store.specs.StoreLaws.{directory-ok}
+use Rattle.store.specs.ValidLaws.{store-valid}
+use Rattle.store.specs.declared.directory.Directory.{Directory}
+use Rattle.placement.specs.Held.{Held}
+use Rattle.placement.specs.Choose.{barred, loses, lost, torn, choose}
+use Rattle.placement.specs.Marks.{held, choiceOf}
+use Rattle.placement.specs.declared.Marked.{Marked}
+use Rattle.placement.specs.declared.Choice.{Choice}
+use Rattle.placement.specs.declared.Choice.the-variants.{At, Nowhere}
+use Rattle.outcome.specs.Processors.{listOk, coversOne}
+use Rattle.calls.specs.Answers.{refusal}
+use Rattle.calls.specs.declared.answer.Written.{Written as WrittenNumbers}
+use Rattle.calls.specs.declared.answer.Answer.{Answer}
+use Rattle.calls.specs.declared.answer.Answer.the-variants.{Presence, Written, Control, Read, Refused}
+use Rattle.write.specs.Covered.{Covered, coveredIn, one-is}
+use Rattle.write.specs.Marks.{heldIn, outdated}
+use Rattle.write.specs.MarkLaws.{Marks, Agree, held-same, choose-same, shared-same, torn-same}
+use Rattle.write.specs.Write.{written, placed, goodAnswer, judgedAnswer, planAnswer}
+
+pub NoWrite : Answer → Type 0
+NoWrite a = (w : WrittenNumbers) → a ≡ Written w → ⊥
+
+-- a refusal is no written answer
+pub refusal-no : (ah al : ℕ) → NoWrite (refusal ah al)
+unfolding NoWrite
+refusal-no ah al w e = let z : _≡_ {A = ℕ} 0 1 = cc in omega arith
+
+pub Marking : List ℕ → List ℕ → List ℕ → List ℕ → Answer → Marked → Type 0
+Marking old signatures platforms cand a m = (w : WrittenNumbers) → a ≡ Written w → Marks old signatures platforms cand m
+
+pub no-marking : (old signatures platforms cand : List ℕ) (a : Answer) (m : Marked) → NoWrite a → Marking old signatures platforms cand a m
+unfolding NoWrite Marking
+no-marking old signatures platforms cand a m h w e = absurd (h w e)
+
+pub marking-all : (old signatures platforms cand : List ℕ) (a : Answer) (m : Marked) → Marks old signatures platforms cand m → Marking old signatures platforms cand a m
+unfolding Marking
+marking-all old signatures platforms cand a m h w e = h
+
+-- no more pass than there are
+count-most : (p : ℕ → Bool) (n : ℕ) → countBelow n p ≤ n
+unfolding countBelow
+count-most p zero = omega arith
+count-most p (suc n) = go (count-most p n) (p n)
+  where
+    go : countBelow n p ≤ n → (t : Bool) → cond t (countBelow n p + 1) (countBelow n p) ≤ suc n
+    go h true = omega arith
+    go h false = omega arith
+
+choose-most : (h : Held) (n k s c : ℕ) → choose n k h ≡ at s c → c ≤ h .count
+unfolding choose lost
+choose-most h n k s c e =
+    let y : IsLeast (barred h k) (lost h k) (suc n - k) s c = subst (Promised (barred h k) (lost h k) (suc n - k)) e (least-promised (barred h k) (lost h k) (suc n - k)) in
+    let q = y .costs in
+    let z = count-most (loses h k s) (h .count) in
+    omega arith
+
+choice-at : (p : Pick) (s c : ℕ) → choiceOf p ≡ At s c → p ≡ at s c
+choice-at nowhere s c e = absurd (let z : _≡_ {A = ℕ} 0 1 = cc in omega arith)
+choice-at (at t d) s c e = let p : t ≡ s = cc in let q : d ≡ c = cc in rw (p, q)
+
+choice-nowhere : (p : Pick) → choiceOf p ≡ Nowhere → p ≡ nowhere
+choice-nowhere nowhere e = refl
+choice-nowhere (at t d) e = absurd (let z : _≡_ {A = ℕ} 0 1 = cc in omega arith)
+
+-- r is what `choose_run` answered, v how many share
+module _ (m : Marked) (n k : ℕ) (r : Choice) (e : r ≡ choiceOf (choose n k (held m))) where
+  pub place-none : (z : Answer) → r ≡ Nowhere → z ≡ refusal 0x93 5 → z ≡ placed (held m) (choose n k (held m))
+  unfolding placed
+  place-none z h q = q ∙ rw (choice-nowhere (choose n k (held m)) (sym e ∙ h))
+
+  module _ (s c v : ℕ) (h : r ≡ At s c) (g : v ≡ countBelow (m .count) (held m .shares)) where
+    pub place-some : written s (v + c) ≡ placed (held m) (choose n k (held m))
+    unfolding placed held
+    place-some = rw (choice-at (choose n k (held m)) s c (sym e ∙ h), g)
+
+    pub place-few : m .count ≤ 32 → v + c ≤ 64
+    unfolding held
+    place-few l =
+        omega (arith, count-most (held m .shares) (m .count), choose-most (held m) n k s c (choice-at (choose n k (held m)) s c (sym e ∙ h)))
+
+pub ruleset placing = (place-none, place-some)
