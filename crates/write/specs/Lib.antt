@@ -1,9 +1,18 @@
--- The write call (document 01, "The calls", 1).
-pub mod Covered
-pub mod ListLaws
+-- The write call (document 01, "The calls", 1): the definitions, demand 3, then laws.
 pub mod Marks
-pub mod MarkLaws
 pub mod Write
 pub mod Demand
+pub mod Covered
+pub mod ListLaws
+pub mod MarkLaws
 pub mod PlanLaws
 pub mod PlanCases
+pub mod Planned
+pub mod Storing
+pub mod WriteCases
+pub mod Join
+pub mod Counts
+pub mod Chosen
+pub mod Gone
+pub mod Answered
+pub mod Theorem

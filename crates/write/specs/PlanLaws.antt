@@ -36,7 +36,7 @@ use Rattle.write.specs.Marks.{heldIn, outdated}
 use Rattle.write.specs.MarkLaws.{Marks, Agree, held-same, choose-same, shared-same, torn-same}
 use Rattle.write.specs.Write.{written, placed, goodAnswer, judgedAnswer, planAnswer}
 
-pub NoWrite : Answer → Type 0
+unfoldable pub NoWrite : Answer → Type 0
 NoWrite a = (w : WrittenNumbers) → a ≡ Written w → ⊥
 
 -- a refusal is no written answer
@@ -44,7 +44,7 @@ pub refusal-no : (ah al : ℕ) → NoWrite (refusal ah al)
 unfolding NoWrite
 refusal-no ah al w e = let z : _≡_ {A = ℕ} 0 1 = cc in omega arith
 
-pub Marking : List ℕ → List ℕ → List ℕ → List ℕ → Answer → Marked → Type 0
+unfoldable pub Marking : List ℕ → List ℕ → List ℕ → List ℕ → Answer → Marked → Type 0
 Marking old signatures platforms cand a m = (w : WrittenNumbers) → a ≡ Written w → Marks old signatures platforms cand m
 
 pub no-marking : (old signatures platforms cand : List ℕ) (a : Answer) (m : Marked) → NoWrite a → Marking old signatures platforms cand a m

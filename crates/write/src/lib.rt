@@ -2,3 +2,4 @@
 pub mod marks;
 pub mod plan;
 pub mod processors;
+pub mod write;

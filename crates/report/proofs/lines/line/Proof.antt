@@ -1,0 +1,20 @@
+-- `report::lines::line` meets its contract, by those of its calls.
+use borrow.Author.Needs.{needs}
+use native.Mathlib.Omega.{arith}
+use Rattle.report.specs.Catalogue.{lineOf}
+use Rattle.report.specs.Lists.{joined}
+use Rattle.report.proofs.lines.line.Statement.{statement}
+use Rattle.report.proofs.lines.line.Tie as tie
+
+pub line-spec : {M : Type 1} → statement M
+unfolding lineOf
+line-spec =
+    tie.close
+    (tie.spec
+    (search needs)
+    (search needs)
+    (search needs)
+    (search needs)
+    (search needs)
+    (search needs)
+    (λ c. record { text = search joined; long = omega arith }))

@@ -1,0 +1,13 @@
+-- `report::lines::number` meets its contract, by those of its calls.
+use borrow.Author.Needs.{needs}
+use Rattle.report.specs.Texts.{added-both}
+use Rattle.report.proofs.lines.number.Statement.{statement}
+use Rattle.report.proofs.lines.number.Tie as tie
+
+pub number-spec : {M : Type 1} → statement M
+number-spec =
+    tie.close
+    (tie.spec
+    (search needs)
+    (search needs)
+    (λ c. search (needs, added-both)))

@@ -1,0 +1,78 @@
+-- Laws of lines: the numbers in them are below 100, and what a block adds.
+--   few-platforms, low-platform    the numbers of platforms, where n is what a call answered of the part u
+--   block-small, size-small        the numbers of blocks in a valid store
+--   adding                         what a block adds by its kind, as `search` takes it
+use Prim.Native.Nat.{ℕ, zero, suc, _+_, _<_, _≤_}
+use mathlib.Core.Path.{_≡_, sym, _∙_}
+use mathlib.Core.Bool.{Bool, true, false, cond}
+use mathlib.Core.List.{List}
+use native.Mathlib.Omega.{arith}
+use Rattle.laws.specs.Count.{countBelow, first-is}
+use Rattle.update.specs.Fields.{revision}
+use Rattle.update.specs.Covers.{platformsAt, names}
+use Rattle.update.specs.Platforms.{platformCount, lowestPlatform}
+use Rattle.store.specs.Blocks.{fromBlock, blockCount}
+use Rattle.store.specs.Scan.{slotAt, begins, storeOk}
+use Rattle.store.specs.Kind.{kindOf, kindAt}
+use Rattle.store.specs.SlotLaws.{ends-inside}
+use Rattle.store.specs.ValidLaws.{store-valid}
+use Rattle.store.specs.declared.slot.Slot.{Slot}
+use Rattle.store.specs.declared.slot.Slot.the-variants.{Unused, Update, Bad}
+use Rattle.store.specs.declared.kind.Kind.{Kind}
+use Rattle.store.specs.declared.kind.Kind.the-variants.{Free, First, Later}
+use Rattle.report.specs.Catalogue.{lineOf, kindLine, blockLine}
+use Rattle.report.specs.Texts.{Added, added-none}
+use Rattle.report.specs.declared.text.Text.{Text}
+
+count-few : (n : ℕ) (p : ℕ → Bool) → countBelow n p ≤ n
+unfolding countBelow
+count-few zero p = omega arith
+count-few (suc n) p = go (p n) (count-few n p)
+  where
+    go : (t : Bool) → countBelow n p ≤ n → cond t (countBelow n p + 1) (countBelow n p) ≤ suc n
+    go true l = omega arith
+    go false l = omega arith
+
+module _ (u : List ℕ) (n : ℕ) where
+  pub few-platforms : n ≡ platformCount u → n < 100
+  unfolding platformCount
+  few-platforms e = omega (arith, count-few 8 (names (platformsAt u 0)))
+
+  pub low-platform : n ≡ lowestPlatform u → n < 100
+  unfolding lowestPlatform
+  low-platform e = omega (arith, first-is 8 (names (platformsAt u 0)) .within)
+
+-- a block that the reading finds the first of k has k blocks
+first-update : (t : Bool) (x : Slot) (k : ℕ) → kindOf t x ≡ First k → x ≡ Update k
+first-update true Unused k e = absurd (let z : _≡_ {A = ℕ} 0 1 = cc in omega arith)
+first-update true (Update j) k e = cc
+first-update true Bad k e = absurd (let z : _≡_ {A = ℕ} 0 1 = cc in omega arith)
+first-update false x k e = absurd (let z : _≡_ {A = ℕ} 0 1 = cc in omega arith)
+
+module _ (s : List ℕ) (b : ℕ) (ok : storeOk s ≡ true) where
+  pub block-small : b < blockCount s → b < 100
+  block-small l = omega (arith, store-valid s ok .few)
+
+  pub size-small : (kind : Kind) (k : ℕ) → kind ≡ kindAt s b → kind ≡ First k → k < 100
+  unfolding kindAt
+  size-small kind k e f =
+      let v = store-valid s ok in
+      omega (arith, v .few, ends-inside s (blockCount s) b k (v .long) (first-update (begins s b) (slotAt s b) k (sym e ∙ f)))
+
+-- kind is the local that holds the kind of block b
+module _ (s : List ℕ) (b : ℕ) (kind : Kind) (e : kind ≡ kindAt s b) (t : Text) where
+  pub line-free : kind ≡ Free → Added t t (blockLine s b) 21
+  unfolding kindLine
+  line-free f = rw (← e, f) (added-none t 21)
+
+  pub line-later : kind ≡ Later → Added t t (blockLine s b) 21
+  unfolding kindLine
+  line-later f = rw (← e, f) (added-none t 21)
+
+  -- u is the store from the block on
+  pub line-first : (r : Text) (u : List ℕ) (k v n m : ℕ) → kind ≡ First k → u ≡ fromBlock s b → v ≡ revision u → n ≡ platformCount u → m ≡ lowestPlatform u
+      → Added t r (lineOf b k v n m) 21 → Added t r (blockLine s b) 21
+  unfolding kindLine
+  line-first r u k v n m f g h i j a = rw (← e, f, ← g, ← h, ← i, ← j) a
+
+pub ruleset adding = (line-free, line-later, line-first)
