@@ -7,7 +7,8 @@ use mathlib.Core.Path.{_≡_, sym, _∙_}
 use mathlib.Core.Bool.{Bool, true, false, cond}
 use mathlib.Core.List.{List}
 use native.Mathlib.Omega.{arith}
-use Rattle.laws.specs.Count.{countBelow, first-is}
+use Rattle.laws.specs.Count.{countBelow}
+use Rattle.laws.specs.First.{first-is}
 use Rattle.update.specs.Fields.{revision}
 use Rattle.update.specs.Covers.{platformsAt, names}
 use Rattle.update.specs.Platforms.{platformCount, lowestPlatform}
