@@ -1,0 +1,51 @@
+-- The cases of a call, each from what the tests and the called function say.
+--   Called      the reply, the store and the destination afterwards are those of the definitions
+use Prim.Native.Nat.{ℕ}
+use mathlib.Core.Path.{_≡_, refl, sym, _∙_}
+use mathlib.Core.Bool.{Bool, _&&_}
+use mathlib.Core.List.{List}
+use lib.ListN.{length}
+use lib.Dec.{eqb}
+use borrow.Author.Tests.{eq-eqb, ne-eqb}
+use Rattle.laws.specs.Unless.{unless}
+use Rattle.calls.specs.Presence.{presenceAnswer}
+use Rattle.calls.specs.Control.{controlReply}
+use Rattle.calls.specs.Read.{readAnswer, readBytes}
+use Rattle.calls.specs.declared.answer.Answer.{Answer}
+use Rattle.calls.specs.declared.answer.Reply.{Reply}
+use Rattle.write.specs.Write.{writeAnswer, writeBytes}
+use Rattle.dispatch.specs.Call.{replied, unknown, callReply, callStore, callDestination}
+
+module _ (function sub task block : ℕ) (loading : Bool) (store signatures platforms cand : List ℕ) (back : ℕ) (destination : List ℕ) where
+  abbrev pub Called : Reply → List ℕ → List ℕ → Type 0
+  Called r s d =
+      (r ≡ callReply function sub task block loading store signatures platforms cand back (length destination))
+      × ((s ≡ callStore function sub store signatures platforms cand back) × (d ≡ callDestination function sub block store destination))
+
+  pub other-function : (r : Reply) → (function ≡ 0xD042 → ⊥) → r ≡ unknown loading → Called r store destination
+  unfolding callReply callStore callDestination unless
+  other-function r n e = rw (ne-eqb function 0xD042 n) (e, (refl, refl))
+
+  module _ (f : function ≡ 0xD042) where
+    pub presence-called : (a : Answer) → sub ≡ 0 → a ≡ presenceAnswer store → Called (replied loading a) store destination
+    unfolding callReply callStore callDestination unless
+    presence-called a h e = rw (eq-eqb function 0xD042 f, h) (rw e refl, (refl, refl))
+
+    module _ (n0 : sub ≡ 0 → ⊥) where
+      pub write-called : (a : Answer) (s : List ℕ) → sub ≡ 1 → a ≡ writeAnswer store signatures platforms cand back → s ≡ writeBytes store signatures platforms cand back → Called (replied loading a) s destination
+      unfolding callReply callStore callDestination unless
+      write-called a s h e g = rw (eq-eqb function 0xD042 f, h) (rw e refl, (g, refl))
+
+      module _ (n1 : sub ≡ 1 → ⊥) where
+        pub control-called : (r : Reply) → sub ≡ 2 → r ≡ controlReply task loading → Called r store destination
+        unfolding callReply callStore callDestination unless
+        control-called r h e = rw (eq-eqb function 0xD042 f, h) (e, (refl, refl))
+
+        module _ (n2 : sub ≡ 2 → ⊥) where
+          pub read-called : (a : Answer) (d : List ℕ) → sub ≡ 3 → a ≡ readAnswer store block (length destination) → d ≡ readBytes store block destination → Called (replied loading a) store d
+          unfolding callReply callStore callDestination unless
+          read-called a d h e g = rw (eq-eqb function 0xD042 f, h) (rw e refl, (refl, g))
+
+          pub other-sub : (r : Reply) → (sub ≡ 3 → ⊥) → r ≡ unknown loading → Called r store destination
+          unfolding callReply callStore callDestination unless
+          other-sub r n3 e = rw (eq-eqb function 0xD042 f, ne-eqb sub 0 n0, ne-eqb sub 1 n1, ne-eqb sub 2 n2, ne-eqb sub 3 n3) (e, (refl, refl))
