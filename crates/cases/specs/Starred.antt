@@ -1,17 +1,20 @@
 -- The starred cases of document 01, "Examples at the edges": one table under one statement, proved by evaluation.
 --   p          the update P, with a revision and a checksum
+--   answer     what check 8 answers, of stored updates by start, size and marks
 --   Starred    the table, a line for each case
 --   starred    it holds
 use Prim.Native.Nat.{ℕ, _+_, _*_, _%_, _/_}
 use mathlib.Core.Path.{_≡_, refl}
-use mathlib.Core.Bool.{true, false, _&&_}
+use mathlib.Core.Bool.{Bool, true, false, _&&_}
 use mathlib.Core.List.{List, [], _∷_, _++_}
 use native.Mathlib.Omega.{arith}
 use lib.Dec.{leb}
-use lib.ListN.{replicate}
+use lib.ListN.{length, getD, replicate}
 use borrow.Author.Tests.{ne-eqb}
 use Rattle.laws.specs.Bools.{and-false-r}
 use Rattle.laws.specs.Below.{allBelow, anyBelow}
+use Rattle.laws.specs.Count.{countBelow}
+use Rattle.laws.specs.Least.{least}
 use Rattle.laws.specs.Unless.{unless}
 use Rattle.laws.specs.LowByte.{bit}
 use Rattle.dwords.specs.Dword.{dword}
@@ -21,6 +24,11 @@ use Rattle.update.specs.Sizes.{sizesOk, tableCount, entriesOf, entryCount, bloc
 use Rattle.update.specs.Sums.{sumOf, headerSum, entryAt, entryOk, table, sumsOk}
 use Rattle.update.specs.Verdict.{headerOk, sizesFit, verdict}
 use Rattle.update.specs.Covers.{pairCount, signaturePos, flagsPos, signatureAt, flagsAt, platformsAt, names, pairCovers, coversAt, covers}
+use Rattle.placement.specs.Held.{Held}
+use Rattle.placement.specs.Choose.{touches, goes, bars, loses, barred, lost, choose}
+use Rattle.calls.specs.Answers.{refusal}
+use Rattle.calls.specs.declared.answer.Answer.{Answer}
+use Rattle.write.specs.Write.{written, placed}
 use Rattle.update.specs.declared.verdict.Verdict.the-variants.{Good, BadSum}
 
 bytes : ℕ → List ℕ
@@ -31,6 +39,27 @@ pub p : ℕ → ℕ → List ℕ
 p revision checksum =
     bytes 1 ++ bytes revision ++ bytes 0x07181998 ++ bytes 0x650 ++ bytes checksum ++ bytes 1 ++ bytes 6
     ++ replicate 2020 0
+
+-- stored updates by their starts and sizes, none of which shares; the last list says which cover a listed processor
+stored : List ℕ → List ℕ → List Bool → Held
+stored starts sizes needed =
+    record { count = length starts; start = λ i. getD starts i 0; size = λ i. getD sizes i 0; shares = λ i. false; keeps = λ i. getD needed i false }
+
+-- what check 8 answers of n blocks, of which k are wanted
+pub answer : ℕ → ℕ → Held → Answer
+answer n k h = placed h (choose n k h)
+
+-- stale, unused, unused, unused
+pub stale-first : Held
+stale-first = stored (0 ∷ []) (1 ∷ []) (false ∷ [])
+
+-- a stale update of two, a stale one of one, unused
+pub two-stale : Held
+two-stale = stored (0 ∷ 2 ∷ []) (2 ∷ 1 ∷ []) (false ∷ false ∷ [])
+
+-- needed, stale, needed, stale
+pub alternating : Held
+alternating = stored (0 ∷ 1 ∷ 2 ∷ 3 ∷ []) (1 ∷ 1 ∷ 1 ∷ 1 ∷ []) (true ∷ false ∷ true ∷ false ∷ [])
 
 pub record Starred : Type 0 where
   pub p-is-valid : verdict (p 7 0xF8E7E009) ≡ Good 2048 2000 0 1
@@ -46,9 +75,12 @@ pub record Starred : Type 0 where
   pub d-964-t-1024 : (n : ℕ) → sizesOk 964 1024 n ≡ false
   pub d-32720-t-32768 : (n : ℕ) → (sizesOk 32720 32768 n ≡ true) × (blocksOf 32768 ≡ 16)
   pub t-33792 : (n : ℕ) → sizesOk 33744 33792 n ≡ false
+  pub stale-then-three-unused : answer 4 2 stale-first ≡ written 1 0
+  pub stale-of-two-stale-of-one-unused : answer 4 2 two-stale ≡ written 0 1
+  pub needed-stale-needed-stale : answer 4 2 alternating ≡ refusal 0x93 5
 
 pub starred : Starred
-unfolding p bytes verdict unless headerOk sizesFit sumsOk table dwordSum dwordsOf total dword dataSize totalSize dataOf totalOf sizesOk tableCount entriesOf entryCount blocksOf allBelow entryOk entryAt sumOf headerSum covers coversAt pairCovers pairCount signatureAt signaturePos platformsAt flagsAt flagsPos names bit anyBelow
+unfolding p bytes verdict unless headerOk sizesFit sumsOk table dwordSum dwordsOf total dword dataSize totalSize dataOf totalOf sizesOk tableCount entriesOf entryCount blocksOf allBelow entryOk entryAt sumOf headerSum covers coversAt pairCovers pairCount signatureAt signaturePos platformsAt flagsAt flagsPos names bit anyBelow answer stored stale-first two-stale alternating placed choose least barred bars goes touches lost loses countBelow
 starred =
     record {
       p-is-valid = refl;
@@ -64,4 +96,7 @@ starred =
       d-964-t-1024 = λ n. rw (ne-eqb 1024 (48 + 964 + 20 + 12 * n) (λ e. omega arith)) (and-false-r (leb 1 n && leb n 64));
       d-32720-t-32768 = λ n. (refl, refl);
       t-33792 = λ n. refl;
+      stale-then-three-unused = refl;
+      stale-of-two-stale-of-one-unused = refl;
+      needed-stale-needed-stale = refl;
     }

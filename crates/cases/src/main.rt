@@ -3,8 +3,10 @@ mod make;
 mod say;
 mod stores;
 mod updates;
+mod writes;
 
 fn main() {
     updates::run();
     stores::run();
+    writes::run();
 }

@@ -1,7 +1,9 @@
 // A line of output for each kind of answer.
+use crate::make;
 use calls::answer::Answer;
 use libc::STDOUT_FILENO;
 use load::LoadChoice;
+use report::Report;
 use update::verdict::Verdict;
 
 pub fn text(s: &[u8]) {
@@ -139,4 +141,15 @@ pub fn load(label: &[u8], choice: LoadChoice, data: &[u8]) {
     text(b", data ");
     io::print_decimal(STDOUT_FILENO, data.len() as u64);
     text(b"\n");
+}
+
+// The catalogue of a store.
+pub fn catalogue(s: &[u8]) {
+    let mut space = io::buffer();
+    let out: &mut [u8] = &mut space;
+    let answer = report::catalogue::catalogue(s, out);
+    match answer {
+        Report::Text { length } => text(make::first(out, length as usize)),
+        Report::Short { length: _ } => text(b"short\n"),
+    }
 }

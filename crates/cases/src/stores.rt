@@ -2,6 +2,14 @@
 use crate::make;
 use crate::say;
 
+// The catalogue of four blocks with P in block 1, whole.
+fn catalogue() {
+    let mut space = io::large_buffer();
+    let buf: &mut [u8] = &mut space;
+    make::four_blocks(buf);
+    say::catalogue(make::first(buf, 8192));
+}
+
 fn presence(label: &[u8], n: usize) {
     let mut space = io::large_buffer();
     let buf: &mut [u8] = &mut space;
@@ -113,6 +121,7 @@ fn loads() {
 }
 
 pub fn run() {
+    catalogue();
     presences();
     controls();
     reads();

@@ -2,3 +2,5 @@
 pub mod Load
 pub mod LoadLaws
 pub mod DataLaws
+pub mod AfterWrite
+pub mod AfterWriteLaws
