@@ -1,9 +1,9 @@
-# make: builds the main job and runs it. make test: the gate.
+# make: builds the catalogue program and shows the catalogue of a small store. make test: the gate.
 .PHONY: all test
 
 all:
-	rt check cases
-	./target/bin/cases
+	rt check catalogue
+	./target/bin/catalogue < crates/catalogue/stdin
 
 test:
 	.ci/run
