@@ -1,4 +1,4 @@
--- The outcome's bytes as the code makes them: one emptied update after the other is filled, then the run, then the candidate is put.
+-- The outcome's bytes as the code makes them: one emptied update after the other is filled, then the candidate is put, then the rest of its last block is filled.
 --   cleared          the old store with all blocks of the updates of e filled with FFh
 --   cleared-long     it is as long
 --   cleared-none     none is emptied
@@ -79,40 +79,47 @@ module _ (old : List ℕ) where
         (le-or-lt (b * 2048) i))
 
   module _ (t : ℕ) (cand : List ℕ) (start : ℕ) (e : ℕ → Bool) (l : (start + blocksOf t) * 2048 ≤ length old) (h : t ≤ length cand) where
-    -- the run is filled, then the candidate is put
-    abbrev run : List ℕ
-    run = fillAt (cleared old e) (start * 2048) (blocksOf t * 2048)
+    -- the candidate is put, then the rest of its last block is filled
+    abbrev stored : List ℕ
+    stored = putAt (cleared old e) (start * 2048) cand t
 
-    run-inside : start * 2048 + blocksOf t * 2048 ≤ length (cleared old e)
-    run-inside = omega (arith, cleared-long e)
+    abbrev rest : ℕ
+    rest = blocksOf t * 2048 - t
 
-    run-long : length run ≡ length old
-    run-long = fill-long (cleared old e) (start * 2048) (blocksOf t * 2048) run-inside ∙ cleared-long e
-
-    cand-inside : start * 2048 + t ≤ length run
+    cand-inside : start * 2048 + t ≤ length (cleared old e)
     unfolding blocksOf
-    cand-inside = omega (arith, run-long)
+    cand-inside = omega (arith, cleared-long e)
 
-    made-at : (i : ℕ) → i < length old → getD (putAt run (start * 2048) cand t) i 0 ≡ getD (outcomeBytes old t cand start e) i 0
-    unfolding runByte unless blocksOf
+    stored-long : length stored ≡ length old
+    stored-long = put-long (cleared old e) (start * 2048) cand t cand-inside h ∙ cleared-long e
+
+    rest-ends : t + rest ≡ blocksOf t * 2048
+    unfolding blocksOf
+    rest-ends = omega arith
+
+    rest-inside : start * 2048 + t + rest ≤ length stored
+    rest-inside = omega (arith, stored-long, rest-ends)
+
+    made-at : (i : ℕ) → i < length old → getD (fillAt stored (start * 2048 + t) rest) i 0 ≡ getD (outcomeBytes old t cand start e) i 0
+    unfolding runByte unless
     made-at i n = go (le-or-lt (start * 2048) i) (le-or-lt (start * 2048 + blocksOf t * 2048) i) (le-or-lt (start * 2048 + t) i)
       where
         go : (start * 2048 ≤ i) ⊎ (i < start * 2048) → (start * 2048 + blocksOf t * 2048 ≤ i) ⊎ (i < start * 2048 + blocksOf t * 2048) → (start * 2048 + t ≤ i) ⊎ (i < start * 2048 + t)
-            → getD (putAt run (start * 2048) cand t) i 0 ≡ getD (outcomeBytes old t cand start e) i 0
+            → getD (fillAt stored (start * 2048 + t) rest) i 0 ≡ getD (outcomeBytes old t cand start e) i 0
         go (inr o) q r =
-            put-low run (start * 2048) cand t cand-inside h i o ∙ fill-out (cleared old e) (start * 2048) (blocksOf t * 2048) run-inside i (inl o) ∙ cleared-at e i n
+            fill-out stored (start * 2048 + t) rest rest-inside i (inl (omega arith)) ∙ put-low (cleared old e) (start * 2048) cand t cand-inside h i o ∙ cleared-at e i n
             ∙ sym (outcome-out old t cand start e (i / 2048) i n refl (not-run start (blocksOf t) (i / 2048) (inl (omega arith))))
         go (inl o) (inl q) r =
-            put-high run (start * 2048) cand t cand-inside h i (omega arith) ∙ fill-out (cleared old e) (start * 2048) (blocksOf t * 2048) run-inside i (inr q) ∙ cleared-at e i n
+            fill-out stored (start * 2048 + t) rest rest-inside i (inr (omega (arith, rest-ends))) ∙ put-high (cleared old e) (start * 2048) cand t cand-inside h i (omega (arith, rest-ends)) ∙ cleared-at e i n
             ∙ sym (outcome-out old t cand start e (i / 2048) i n refl (not-run start (blocksOf t) (i / 2048) (inr (omega arith))))
         go (inl o) (inr q) (inl r) =
-            put-high run (start * 2048) cand t cand-inside h i r ∙ fill-mid (cleared old e) (start * 2048) (blocksOf t * 2048) run-inside i o q
+            fill-mid stored (start * 2048 + t) rest rest-inside i r (omega (arith, rest-ends))
             ∙ sym (outcome-run old t cand start e (i / 2048) i n refl (at-run start (blocksOf t) (i / 2048) (omega arith) (omega arith)) ∙ rw (le-ltb (i - start * 2048) t (omega arith)))
         go (inl o) (inr q) (inr r) =
-            put-mid run (start * 2048) cand t cand-inside h i o r
-            ∙ sym (outcome-run old t cand start e (i / 2048) i n refl (at-run start (blocksOf t) (i / 2048) (omega arith) (omega arith)) ∙ rw (lt-ltb (i - start * 2048) t (omega arith)))
+            fill-out stored (start * 2048 + t) rest rest-inside i (inl r) ∙ put-mid (cleared old e) (start * 2048) cand t cand-inside h i o r
+            ∙ sym (outcome-run old t cand start e (i / 2048) i n refl (at-run start (blocksOf t) (i / 2048) (omega arith) (omega (arith, rest-ends))) ∙ rw (lt-ltb (i - start * 2048) t (omega arith)))
 
-    pub outcome-made : putAt run (start * 2048) cand t ≡ outcomeBytes old t cand start e
+    pub outcome-made : fillAt stored (start * 2048 + t) rest ≡ outcomeBytes old t cand start e
     outcome-made =
-        let p = put-long run (start * 2048) cand t cand-inside h ∙ run-long in
-        ext-getD 0 (putAt run (start * 2048) cand t) (outcomeBytes old t cand start e) (p ∙ sym (outcome-length old t cand start e)) (λ i m. made-at i (omega arith))
+        let p = fill-long stored (start * 2048 + t) rest rest-inside ∙ stored-long in
+        ext-getD 0 (fillAt stored (start * 2048 + t) rest) (outcomeBytes old t cand start e) (p ∙ sym (outcome-length old t cand start e)) (λ i m. made-at i (omega arith))

@@ -8,7 +8,7 @@
 --   emptying         the two ways of `emptyIf`, as `search` takes them
 --   marking          the loop over the entries, as `search` takes it
 --   all-written      the steps of a write, from what each call leaves
-use Prim.Native.Nat.{ℕ, suc, _+_, _*_, _<_, _≤_}
+use Prim.Native.Nat.{_-_, ℕ, suc, _+_, _*_, _<_, _≤_}
 use mathlib.Core.Path.{_≡_, refl, sym, ap, _∙_}
 use mathlib.Core.Bool.{Bool, true, false, _&&_, or-false}
 use mathlib.Core.List.{List}
@@ -116,6 +116,6 @@ module _ (old starts sizes : List ℕ) (gone : List Bool) where
 
 pub ruleset marking = (marks-start, marks-more, marks-done, marks-inside)
 
-pub all-written : (old cand a b r : List ℕ) (t start : ℕ) (e : ℕ → Bool) → a ≡ cleared old e → b ≡ fillAt a (start * 2048) (blocksOf t * 2048) → r ≡ putAt b (start * 2048) cand t
+pub all-written : (old cand a b r : List ℕ) (t start : ℕ) (e : ℕ → Bool) → a ≡ cleared old e → b ≡ putAt a (start * 2048) cand t → r ≡ fillAt b (start * 2048 + t) (blocksOf t * 2048 - t)
     → (start + blocksOf t) * 2048 ≤ length old → t ≤ length cand → r ≡ outcomeBytes old t cand start e
 all-written old cand a b r t start e p q h l m = h ∙ rw (q, p) (outcome-made old t cand start e l m)

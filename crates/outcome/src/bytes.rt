@@ -80,6 +80,6 @@ pub fn write_bytes(
 {
     empty_marked(store, starts, sizes, gone, count);
     let at = start as usize * 2048;
-    fill(store, at, (t + 2047) / 2048 * 2048);
     put(store, at, cand, t);
+    fill(store, at + t, (t + 2047) / 2048 * 2048 - t);
 }

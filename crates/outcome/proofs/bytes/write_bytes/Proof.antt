@@ -1,4 +1,4 @@
--- `outcome::bytes::write_bytes` meets its contract: the marked updates emptied, the run filled and the candidate put are the outcome's bytes.
+-- `outcome::bytes::write_bytes` meets its contract: the marked updates emptied, the candidate put and the rest of its last block filled are the outcome's bytes.
 use borrow.Author.Needs.{needs}
 use Rattle.update.specs.Sizes.{blocksOf}
 use Rattle.outcome.specs.Marks.{all-written}
@@ -12,13 +12,15 @@ write-bytes-spec =
     (tie.spec
     (λ c κs. search needs)
     (λ c. search needs)
-    (λ c. search needs)
-    (λ c. search needs)
     (λ c κs. search needs)
+    (λ c. search needs)
+    (λ c. search needs)
+    (λ c. search needs)
+    (λ c. search needs)
     (λ c κs. search needs)
     (λ c. search needs)
     (λ c.
-    let put = c .before .before in
-    let fill = put .before .before .before .before in
-    let emptied = fill .before .before .before .before in
-    all-written _ _ _ _ _ _ _ _ (emptied .empty-marked .ensures) (fill .fill .ensures) (put .put .ensures) (search needs) (search needs)))
+    let fill = c .before .before in
+    let put = fill .before .before .before .before in
+    let emptied = put .before .before .before .before in
+    all-written _ _ _ _ _ _ _ _ (emptied .empty-marked .ensures) (put .put .ensures) (fill .fill .ensures) (search needs) (search needs)))
