@@ -1,0 +1,32 @@
+-- `words::load_words` meets its contract: a case each.
+use Prim.Native.Nat.{_<_}
+use native.Mathlib.Omega.{arith}
+use borrow.Author.Needs.{needs}
+use Rattle.board.specs.WordLaws.{load-wording, load-small}
+use Rattle.board.proofs.words.load_words.Statement.{statement}
+use Rattle.board.proofs.words.load_words.Tie as tie
+
+mul-t13 : tie.Need-mul-t13
+mul-t13 c = let k : c .before .c2 .given .0 .0 < 32 = search (load-small) in omega (arith, k)
+
+add-t14 : tie.Need-add-t14
+add-t14 c = let k : c .before .c2 .given .0 .0 < 32 = search (load-small) in omega (arith, k)
+
+pub load-words-spec : {M : Type 1} → statement M
+load-words-spec =
+    tie.close
+    (tie.spec
+    (search needs)
+    (search needs)
+    (search needs)
+    (search needs)
+    (search needs)
+    (search needs)
+    (search needs)
+    mul-t13
+    add-t14
+    (search needs)
+    (search needs)
+    (λ c. search load-wording)
+    (λ c. search load-wording)
+    (λ c. search load-wording))

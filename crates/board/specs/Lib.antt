@@ -1,0 +1,3 @@
+-- The board's C interface.
+pub mod Words
+pub mod WordLaws

@@ -1,0 +1,127 @@
+-- Laws of the answer words.
+--   chosen         a valid update begins at a chosen start
+--   load-inside    the chosen update begins below block 32
+--   load-part      the offset and the number of the words name a part of the store, and it is the chosen data
+--   wording, load-wording    the words of each case, as `search` takes them
+use Prim.Native.Nat.{ℕ, _+_, _*_, _<_, _≤_}
+use mathlib.Core.Path.{_≡_, refl, sym, ap, _∙_}
+use mathlib.Core.Bool.{Bool, true, false, not}
+use mathlib.Core.List.{List, [], _∷_}
+use native.Mathlib.Omega.{arith}
+use lib.ListN.{length, take, drop, length-drop}
+use lib.Seq.{drop-drop}
+use lib.Dec.{leb, ltb, eqb}
+use borrow.Author.Tests.{ltb-true}
+use Rattle.laws.specs.Bools.{and-true}
+use Rattle.laws.specs.First.{first-is}
+use Rattle.laws.specs.Unless.{unless}
+use Rattle.update.specs.Fields.{revision, dataSize}
+use Rattle.store.specs.Blocks.{fromBlock, blockCount}
+use Rattle.update.specs.Covers.{covers}
+use Rattle.update.specs.VerdictLaws.{judged}
+use Rattle.store.specs.Scan.{slotAt, first, storeOk}
+use Rattle.store.specs.SlotLaws.{good-size, slotted}
+use Rattle.store.specs.ValidLaws.{store-valid}
+use Rattle.calls.specs.declared.answer.Presence.{Presence as PresenceNumbers}
+use Rattle.calls.specs.declared.answer.Written.{Written as WrittenNumbers}
+use Rattle.calls.specs.declared.answer.Control.{Control as ControlNumbers}
+use Rattle.calls.specs.declared.answer.Read.{Read as ReadNumbers}
+use Rattle.calls.specs.declared.answer.Refused.{Refused as RefusedNumbers}
+use Rattle.calls.specs.declared.answer.Answer.{Answer}
+use Rattle.calls.specs.declared.answer.Answer.the-variants.{Presence, Written, Control, Read, Refused}
+use Rattle.load.specs.Load.{holds, holder, chosenAt, found, loadChoice, chosenData, dataPart}
+use Rattle.load.specs.declared.LoadChoice.{LoadChoice}
+use Rattle.load.specs.declared.LoadChoice.the-variants as choice
+use Rattle.board.specs.Words.{bit, answerWords, loadWords}
+
+unfoldable pub Inside : LoadChoice → Type 0
+Inside c = (b r : ℕ) → c ≡ choice.Chosen b r → b < 32
+
+-- a choice, taken apart: the store is valid, and an update begins at the start
+pub record Choice (s : List ℕ) (b : ℕ) : Type 0 where
+  pub ok : storeOk s ≡ true
+  pub below : b < blockCount s
+  pub begun : first s b ≡ true
+
+chosen-at : (s : List ℕ) (a b r : ℕ) (t : Bool) → ltb a (blockCount s) ≡ t → unless t choice.Nothing (choice.Chosen a (revision (fromBlock s a))) ≡ choice.Chosen b r → (a ≡ b) × (a < blockCount s)
+unfolding unless
+chosen-at s a b r true e h = (cc, ltb-true a (blockCount s) e)
+chosen-at s a b r false e h = absurd (let z : _≡_ {A = ℕ} 0 1 = cc in omega arith)
+
+pub chosen : (loading : Bool) (s : List ℕ) (x p b r : ℕ) → choice.Chosen b r ≡ loadChoice loading s x p → Choice s b
+unfolding loadChoice found chosenAt unless holder holds
+chosen loading s x p b r e = go (storeOk s) refl (leb p 7) loading e
+  where
+    go : (t : Bool) → storeOk s ≡ t → (u v : Bool) → choice.Chosen b r ≡ unless t (choice.Refused 0x92 1) (unless u (choice.Refused 0x92 2) (unless v choice.Nothing (found s x p))) → Choice s b
+    go false k u v q = absurd (let z : _≡_ {A = ℕ} 0 1 = cc in omega arith)
+    go true k false v q = absurd (let z : _≡_ {A = ℕ} 0 1 = cc in omega arith)
+    go true k true false q = absurd (let z : _≡_ {A = ℕ} 0 1 = cc in omega arith)
+    go true k true true q =
+        let y = chosen-at s (holder s x p) b r (ltb (holder s x p) (blockCount s)) refl (sym q) in
+        let h = and-true (first s (holder s x p)) (covers (fromBlock s (holder s x p)) x p) (first-is (blockCount s) (holds s x p) .passes (y .1)) in
+        rw (← y .0) (record { ok = k; below = y .1; begun = h .0 })
+
+pub load-inside : (c : LoadChoice) (loading : Bool) (s : List ℕ) (x p : ℕ) → c ≡ loadChoice loading s x p → Inside c
+unfolding Inside
+load-inside c loading s x p e b r h = let y = chosen loading s x p b r (sym h ∙ e) in omega (arith, y .below, store-valid s (y .ok) .few)
+
+-- the offset and the number of the words name a part of the store, and it is the chosen data
+pub load-part : (loading : Bool) (s : List ℕ) (x p b r : ℕ) → choice.Chosen b r ≡ loadChoice loading s x p
+    → (b * 2048 + 48 + dataSize (fromBlock s b) ≤ length s) × (take (dataSize (fromBlock s b)) (drop (b * 2048 + 48) s) ≡ chosenData s (loadChoice loading s x p))
+unfolding chosenData dataPart slotAt
+load-part loading s x p b r e =
+    let y = chosen loading s x p b r e in
+    let v = store-valid s (y .ok) in
+    let h = v .layout .held b (y .below) (y .begun) in
+    let z = slotted (fromBlock s b) (h .0) (h .1) in
+    let g = good-size (fromBlock s b) (z .total) (z .datas) (z .entries) (h .0) (z .good) in
+    let d = judged (fromBlock s b) (z .total) (z .datas) (z .entries) (h .0) (z .good) .data in
+    let l = length-drop (b * 2048) s in
+    (omega (arith, v .long, y .below), rw (← e) (ap (take (dataSize (fromBlock s b))) (sym (drop-drop 48 (b * 2048) s))))
+
+-- the words of each case; `on` is the word of the loading state
+module _ (a : Answer) (loading : Bool) (on : ℕ) (e : on ≡ bit loading) where
+  pub presence-words : (p : PresenceNumbers) → a ≡ Presence p
+      → (0 ∷ 0 ∷ 0 ∷ on ∷ 0 ∷ p .byte0 ∷ p .byte1 ∷ p .byte2 ∷ p .byte3 ∷ p .byte4 ∷ p .byte5 ∷ p .byte6 ∷ p .byte7 ∷ p .«loader_version» ∷ p .blocks ∷ 0 ∷ []) ≡ answerWords a loading
+  unfolding answerWords
+  presence-words p h = rw (h, e)
+
+  pub written-words : (w : WrittenNumbers) → a ≡ Written w → (0 ∷ 0 ∷ 0 ∷ on ∷ 1 ∷ w .start ∷ w .emptied ∷ 0 ∷ 0 ∷ 0 ∷ 0 ∷ 0 ∷ 0 ∷ 0 ∷ 0 ∷ 0 ∷ []) ≡ answerWords a loading
+  unfolding answerWords
+  written-words w h = rw (h, e)
+
+  pub control-words : (k : ControlNumbers) → a ≡ Control k → (0 ∷ 0 ∷ 0 ∷ on ∷ 2 ∷ k .status ∷ 0 ∷ 0 ∷ 0 ∷ 0 ∷ 0 ∷ 0 ∷ 0 ∷ 0 ∷ 0 ∷ 0 ∷ []) ≡ answerWords a loading
+  unfolding answerWords
+  control-words k h = rw (h, e)
+
+  pub read-words : (d : ReadNumbers) → a ≡ Read d → (0 ∷ 0 ∷ 0 ∷ on ∷ 3 ∷ d .blocks ∷ 0 ∷ 0 ∷ 0 ∷ 0 ∷ 0 ∷ 0 ∷ 0 ∷ 0 ∷ 0 ∷ 0 ∷ []) ≡ answerWords a loading
+  unfolding answerWords
+  read-words d h = rw (h, e)
+
+  pub refused-words : (f : RefusedNumbers) (c : ℕ) → a ≡ Refused f → c ≡ bit (not (eqb (f .ah) 0))
+      → (f .ah ∷ f .al ∷ c ∷ on ∷ 4 ∷ f .status ∷ 0 ∷ 0 ∷ 0 ∷ 0 ∷ 0 ∷ 0 ∷ 0 ∷ 0 ∷ 0 ∷ 0 ∷ []) ≡ answerWords a loading
+  unfolding answerWords
+  refused-words f c h k = rw (h, e, k)
+
+pub ruleset wording = (presence-words, written-words, control-words, read-words, refused-words)
+
+-- the words of each load choice
+module _ (c : LoadChoice) (loading : Bool) (s : List ℕ) (on : ℕ) (e : on ≡ bit loading) where
+  pub load-refused-words : (ah al k : ℕ) → c ≡ choice.Refused ah al → k ≡ bit (not (eqb ah 0)) → (ah ∷ al ∷ k ∷ on ∷ 2 ∷ 0 ∷ 0 ∷ 0 ∷ 0 ∷ 0 ∷ 0 ∷ 0 ∷ 0 ∷ 0 ∷ 0 ∷ 0 ∷ []) ≡ loadWords loading s c
+  unfolding loadWords
+  load-refused-words ah al k h q = rw (h, e, q)
+
+  pub load-nothing-words : c ≡ choice.Nothing → (0 ∷ 0 ∷ 0 ∷ on ∷ 0 ∷ 0 ∷ 0 ∷ 0 ∷ 0 ∷ 0 ∷ 0 ∷ 0 ∷ 0 ∷ 0 ∷ 0 ∷ 0 ∷ []) ≡ loadWords loading s c
+  unfolding loadWords
+  load-nothing-words h = rw (h, e)
+
+  pub load-chosen-words : (b r d : ℕ) (u : List ℕ) → c ≡ choice.Chosen b r → u ≡ fromBlock s b → d ≡ dataSize u
+      → (0 ∷ 0 ∷ 0 ∷ on ∷ 1 ∷ b ∷ r ∷ (b * 2048 + 48) ∷ d ∷ 0 ∷ 0 ∷ 0 ∷ 0 ∷ 0 ∷ 0 ∷ 0 ∷ []) ≡ loadWords loading s c
+  unfolding loadWords
+  load-chosen-words b r d u h k q = rw (h, e, q, k)
+
+  pub load-small : (b r : ℕ) → Inside c → c ≡ choice.Chosen b r → b < 32
+  unfolding Inside
+  load-small b r i h = i b r h
+
+pub ruleset load-wording = (load-refused-words, load-nothing-words, load-chosen-words)

@@ -1,0 +1,63 @@
+-- The answer words of the board's C interface: 16 words, and the image of AX.
+--   bit           1 for true, 0 for false
+--   padded        the words, and 0 behind them up to 16
+--   axOf          AH * 256 + AL
+--   answerWords   AH, AL, carry, the loading state after the call, the case, and the case's numbers
+--   callWords     those of a reply
+--   loadCase      0 nothing, 1 chosen, 2 refused
+--   loadNumbers   the start block, the revision, the offset of the data bytes in the store and their number; all 0 where nothing is chosen
+--   loadWords     AH, AL, carry, the loading state passed in, the case, and these numbers
+use Prim.Native.Nat.{ℕ, _+_, _*_, _-_}
+use mathlib.Core.Bool.{Bool, cond, not}
+use mathlib.Core.List.{List, [], _∷_, _++_}
+use lib.ListN.{length, replicate}
+use lib.Dec.{eqb}
+use Rattle.update.specs.Fields.{dataSize}
+use Rattle.store.specs.Blocks.{fromBlock}
+use Rattle.calls.specs.Answers.{ahOf, alOf, carryOf, caseOf, numbersOf}
+use Rattle.calls.specs.declared.answer.Answer.{Answer}
+use Rattle.calls.specs.declared.answer.Reply.{Reply}
+use Rattle.load.specs.declared.LoadChoice.{LoadChoice}
+use Rattle.load.specs.declared.LoadChoice.the-variants.{Refused, Nothing, Chosen}
+
+abbrev pub bit : Bool → ℕ
+bit b = cond b 1 0
+
+abbrev pub padded : List ℕ → List ℕ
+padded l = l ++ replicate (16 - length l) 0
+
+unfoldable pub axOf : Answer → ℕ
+axOf a = ahOf a * 256 + alOf a
+
+unfoldable pub answerWords : Answer → Bool → List ℕ
+answerWords a loading = padded (ahOf a ∷ alOf a ∷ bit (carryOf a) ∷ bit loading ∷ caseOf a ∷ numbersOf a)
+
+abbrev pub callWords : Reply → List ℕ
+callWords r = answerWords (r .answer) (r .loading)
+
+abbrev pub loadAh : LoadChoice → ℕ
+loadAh (Refused ah al) = ah
+loadAh Nothing = 0
+loadAh (Chosen b r) = 0
+
+abbrev pub loadAl : LoadChoice → ℕ
+loadAl (Refused ah al) = al
+loadAl Nothing = 0
+loadAl (Chosen b r) = 0
+
+abbrev pub loadCase : LoadChoice → ℕ
+loadCase (Refused ah al) = 2
+loadCase Nothing = 0
+loadCase (Chosen b r) = 1
+
+abbrev pub loadNumbers : List ℕ → LoadChoice → List ℕ
+loadNumbers s (Refused ah al) = []
+loadNumbers s Nothing = []
+loadNumbers s (Chosen b r) = b ∷ r ∷ (b * 2048 + 48) ∷ dataSize (fromBlock s b) ∷ []
+
+unfoldable pub loadAx : LoadChoice → ℕ
+loadAx c = loadAh c * 256 + loadAl c
+
+unfoldable pub loadWords : Bool → List ℕ → LoadChoice → List ℕ
+loadWords loading s c =
+    padded (loadAh c ∷ loadAl c ∷ bit (not (eqb (loadAh c) 0)) ∷ bit loading ∷ loadCase c ∷ loadNumbers s c)

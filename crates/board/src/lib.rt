@@ -1,0 +1,65 @@
+// The board's C interface: the proved calls, and their answers laid out in 16 words.
+pub mod words;
+
+ghost use mathlib.Core.Path.{_≡_};
+ghost use lib.ListN.{length};
+ghost use Rattle.dispatch.specs.Call.{callReply, callStore, callDestination};
+ghost use Rattle.load.specs.Load.{loadChoice};
+ghost use Rattle.board.specs.Words.{axOf, callWords, loadAx, loadWords};
+
+// The four D042h calls.
+#[no_mangle]
+pub extern "C" fn update_store_call(
+    function: u32,
+    sub_function: u32,
+    task: u32,
+    block: u32,
+    loading: bool,
+    store: &mut [u8],
+    signatures: &[u32],
+    platforms: &[u8],
+    candidate: &[u8],
+    read_back: u32,
+    destination: &mut [u8],
+    answer: &mut [u32; 16],
+) -> u32
+    ensures result { λ r. ⌜ r ≡ axOf (callReply function «sub_function» task block loading (now (store .entry)) (now (signatures .entry)) (now (platforms .entry)) (now (candidate .entry)) «read_back» (length (now (destination .entry))) .answer) ⌝ }
+    ensures answers { λ r. ⌜ now (answer .exit) ≡ callWords (callReply function «sub_function» task block loading (now (store .entry)) (now (signatures .entry)) (now (platforms .entry)) (now (candidate .entry)) «read_back» (length (now (destination .entry)))) ⌝ }
+    ensures stores { λ r. ⌜ now (store .exit) ≡ callStore function «sub_function» (now (store .entry)) (now (signatures .entry)) (now (platforms .entry)) (now (candidate .entry)) «read_back» ⌝ }
+    ensures copies { λ r. ⌜ now (destination .exit) ≡ callDestination function «sub_function» block (now (store .entry)) (now (destination .entry)) ⌝ }
+{
+    let reply = dispatch::call(
+        function,
+        sub_function,
+        task,
+        block,
+        loading,
+        store,
+        signatures,
+        platforms,
+        candidate,
+        read_back,
+        destination,
+    );
+    let a = reply.answer;
+    let words = words::call_words(a, reply.loading);
+    *answer = words;
+    words::ax(a)
+}
+
+// The load choice.
+#[no_mangle]
+pub extern "C" fn update_store_load(
+    loading: bool,
+    store: &[u8],
+    signature: u32,
+    platform: u32,
+    answer: &mut [u32; 16],
+) -> u32
+    ensures result { λ r. ⌜ r ≡ loadAx (loadChoice loading (now (store .entry)) signature platform) ⌝ }
+    ensures answers { λ r. ⌜ now (answer .exit) ≡ loadWords loading (now (store .entry)) (loadChoice loading (now (store .entry)) signature platform) ⌝ }
+{
+    let choice = load::choose(loading, store, signature, platform);
+    *answer = words::load_words(choice, loading, store);
+    words::load_ax(choice)
+}

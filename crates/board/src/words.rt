@@ -1,0 +1,180 @@
+// The answers laid out in 16 words.
+ghost use mathlib.Core.Path.{_≡_};
+ghost use mathlib.Core.Bool.{not};
+ghost use lib.Dec.{eqb};
+ghost use Rattle.board.specs.Words.{bit, axOf, answerWords, loadAx, loadWords};
+ghost use Rattle.board.specs.WordLaws.{Inside};
+use calls::answer::Answer;
+use load::LoadChoice;
+use store::blocks;
+use update::sizes;
+
+// 1 for true, 0 for false.
+fn bit(x: bool) -> u32
+    ensures { λ r. ⌜ r ≡ bit x ⌝ }
+{
+    if x { 1 } else { 0 }
+}
+
+// Carry is set exactly if AH is not 0.
+fn carry(ah: u8) -> u32
+    ensures { λ r. ⌜ r ≡ bit (not (eqb ah 0)) ⌝ }
+{
+    if ah == 0 { 0 } else { 1 }
+}
+
+// The image of AX.
+pub fn ax(a: Answer) -> u32
+    ensures { λ r. ⌜ r ≡ axOf a ⌝ }
+{
+    match a {
+        Answer::Presence(_) => 0,
+        Answer::Written(_) => 0,
+        Answer::Control(_) => 0,
+        Answer::Read(_) => 0,
+        Answer::Refused(f) => f.ah as u32 * 256 + f.al as u32,
+    }
+}
+
+// The words of a call's answer.
+pub fn call_words(a: Answer, loading: bool) -> [u32; 16]
+    ensures { λ r. ⌜ r ≡ answerWords a loading ⌝ }
+{
+    let on = bit(loading);
+    match a {
+        Answer::Presence(p) => [
+            0,
+            0,
+            0,
+            on,
+            0,
+            p.byte0 as u32,
+            p.byte1 as u32,
+            p.byte2 as u32,
+            p.byte3 as u32,
+            p.byte4 as u32,
+            p.byte5 as u32,
+            p.byte6 as u32,
+            p.byte7 as u32,
+            p.loader_version,
+            p.blocks,
+            0,
+        ],
+        Answer::Written(w) => [
+            0,
+            0,
+            0,
+            on,
+            1,
+            w.start,
+            w.emptied,
+            0,
+            0,
+            0,
+            0,
+            0,
+            0,
+            0,
+            0,
+            0,
+        ],
+        Answer::Control(k) => [
+            0,
+            0,
+            0,
+            on,
+            2,
+            k.status as u32,
+            0,
+            0,
+            0,
+            0,
+            0,
+            0,
+            0,
+            0,
+            0,
+            0,
+        ],
+        Answer::Read(d) => [0, 0, 0, on, 3, d.blocks, 0, 0, 0, 0, 0, 0, 0, 0, 0, 0],
+        Answer::Refused(f) => [
+            f.ah as u32,
+            f.al as u32,
+            carry(f.ah),
+            on,
+            4,
+            f.status as u32,
+            0,
+            0,
+            0,
+            0,
+            0,
+            0,
+            0,
+            0,
+            0,
+            0,
+        ],
+    }
+}
+
+// The image of AX of a load choice.
+pub fn load_ax(c: LoadChoice) -> u32
+    ensures { λ r. ⌜ r ≡ loadAx c ⌝ }
+{
+    match c {
+        LoadChoice::Refused { ah, al } => ah as u32 * 256 + al as u32,
+        LoadChoice::Nothing => 0,
+        LoadChoice::Chosen {
+            start: _,
+            revision: _,
+        } => 0,
+    }
+}
+
+// The words of a load choice.
+pub fn load_words(c: LoadChoice, loading: bool, store: &[u8]) -> [u32; 16]
+    requires { ⌜ Inside c ⌝ }
+    ensures { λ r. ⌜ r ≡ loadWords loading (now (store .entry)) c ⌝ }
+{
+    let on = bit(loading);
+    match c {
+        LoadChoice::Refused { ah, al } => [
+            ah as u32,
+            al as u32,
+            carry(ah),
+            on,
+            2,
+            0,
+            0,
+            0,
+            0,
+            0,
+            0,
+            0,
+            0,
+            0,
+            0,
+            0,
+        ],
+        LoadChoice::Nothing => [0, 0, 0, on, 0, 0, 0, 0, 0, 0, 0, 0, 0, 0, 0, 0],
+        LoadChoice::Chosen { start, revision } => [
+            0,
+            0,
+            0,
+            on,
+            1,
+            start,
+            revision,
+            start * 2048 + 48,
+            sizes::data_size(blocks::from_block(store, start)),
+            0,
+            0,
+            0,
+            0,
+            0,
+            0,
+            0,
+        ],
+    }
+}
