@@ -42,8 +42,7 @@ pub extern "C" fn update_store_call(
         destination,
     );
     let a = reply.answer;
-    let words = words::call_words(a, reply.loading);
-    *answer = words;
+    words::call_words(a, reply.loading, answer);
     words::ax(a)
 }
 
@@ -60,6 +59,6 @@ pub extern "C" fn update_store_load(
     ensures answers { λ r. ⌜ now (answer .exit) ≡ loadWords loading (now (store .entry)) (loadChoice loading (now (store .entry)) signature platform) ⌝ }
 {
     let choice = load::choose(loading, store, signature, platform);
-    *answer = words::load_words(choice, loading, store);
+    words::load_words(choice, loading, store, answer);
     words::load_ax(choice)
 }

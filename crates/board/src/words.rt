@@ -36,85 +36,95 @@ pub fn ax(a: Answer) -> u32
     }
 }
 
-// The words of a call's answer.
-pub fn call_words(a: Answer, loading: bool) -> [u32; 16]
-    ensures { λ r. ⌜ r ≡ answerWords a loading ⌝ }
+// Writes the words of a call's answer.
+pub fn call_words(a: Answer, loading: bool, answer: &mut [u32; 16])
+    ensures { λ _. ⌜ now (answer .exit) ≡ answerWords a loading ⌝ }
 {
     let on = bit(loading);
     match a {
-        Answer::Presence(p) => [
-            0,
-            0,
-            0,
-            on,
-            0,
-            p.byte0 as u32,
-            p.byte1 as u32,
-            p.byte2 as u32,
-            p.byte3 as u32,
-            p.byte4 as u32,
-            p.byte5 as u32,
-            p.byte6 as u32,
-            p.byte7 as u32,
-            p.loader_version,
-            p.blocks,
-            0,
-        ],
-        Answer::Written(w) => [
-            0,
-            0,
-            0,
-            on,
-            1,
-            w.start,
-            w.emptied,
-            0,
-            0,
-            0,
-            0,
-            0,
-            0,
-            0,
-            0,
-            0,
-        ],
-        Answer::Control(k) => [
-            0,
-            0,
-            0,
-            on,
-            2,
-            k.status as u32,
-            0,
-            0,
-            0,
-            0,
-            0,
-            0,
-            0,
-            0,
-            0,
-            0,
-        ],
-        Answer::Read(d) => [0, 0, 0, on, 3, d.blocks, 0, 0, 0, 0, 0, 0, 0, 0, 0, 0],
-        Answer::Refused(f) => [
-            f.ah as u32,
-            f.al as u32,
-            carry(f.ah),
-            on,
-            4,
-            f.status as u32,
-            0,
-            0,
-            0,
-            0,
-            0,
-            0,
-            0,
-            0,
-            0,
-            0,
-        ],
+        Answer::Presence(p) => {
+            *answer = [
+                0,
+                0,
+                0,
+                on,
+                0,
+                p.byte0 as u32,
+                p.byte1 as u32,
+                p.byte2 as u32,
+                p.byte3 as u32,
+                p.byte4 as u32,
+                p.byte5 as u32,
+                p.byte6 as u32,
+                p.byte7 as u32,
+                p.loader_version,
+                p.blocks,
+                0,
+            ];
+        }
+        Answer::Written(w) => {
+            *answer = [
+                0,
+                0,
+                0,
+                on,
+                1,
+                w.start,
+                w.emptied,
+                0,
+                0,
+                0,
+                0,
+                0,
+                0,
+                0,
+                0,
+                0,
+            ];
+        }
+        Answer::Control(k) => {
+            *answer = [
+                0,
+                0,
+                0,
+                on,
+                2,
+                k.status as u32,
+                0,
+                0,
+                0,
+                0,
+                0,
+                0,
+                0,
+                0,
+                0,
+                0,
+            ];
+        }
+        Answer::Read(d) => {
+            *answer = [0, 0, 0, on, 3, d.blocks, 0, 0, 0, 0, 0, 0, 0, 0, 0, 0];
+        }
+        Answer::Refused(f) => {
+            *answer = [
+                f.ah as u32,
+                f.al as u32,
+                carry(f.ah),
+                on,
+                4,
+                f.status as u32,
+                0,
+                0,
+                0,
+                0,
+                0,
+                0,
+                0,
+                0,
+                0,
+                0,
+            ];
+        }
     }
 }
 
@@ -132,49 +142,55 @@ pub fn load_ax(c: LoadChoice) -> u32
     }
 }
 
-// The words of a load choice.
-pub fn load_words(c: LoadChoice, loading: bool, store: &[u8]) -> [u32; 16]
+// Writes the words of a load choice.
+pub fn load_words(c: LoadChoice, loading: bool, store: &[u8], answer: &mut [u32; 16])
     requires { ⌜ Inside c ⌝ }
-    ensures { λ r. ⌜ r ≡ loadWords loading (now (store .entry)) c ⌝ }
+    ensures { λ _. ⌜ now (answer .exit) ≡ loadWords loading (now (store .entry)) c ⌝ }
 {
     let on = bit(loading);
     match c {
-        LoadChoice::Refused { ah, al } => [
-            ah as u32,
-            al as u32,
-            carry(ah),
-            on,
-            2,
-            0,
-            0,
-            0,
-            0,
-            0,
-            0,
-            0,
-            0,
-            0,
-            0,
-            0,
-        ],
-        LoadChoice::Nothing => [0, 0, 0, on, 0, 0, 0, 0, 0, 0, 0, 0, 0, 0, 0, 0],
-        LoadChoice::Chosen { start, revision } => [
-            0,
-            0,
-            0,
-            on,
-            1,
-            start,
-            revision,
-            start * 2048 + 48,
-            sizes::data_size(blocks::from_block(store, start)),
-            0,
-            0,
-            0,
-            0,
-            0,
-            0,
-            0,
-        ],
+        LoadChoice::Refused { ah, al } => {
+            *answer = [
+                ah as u32,
+                al as u32,
+                carry(ah),
+                on,
+                2,
+                0,
+                0,
+                0,
+                0,
+                0,
+                0,
+                0,
+                0,
+                0,
+                0,
+                0,
+            ];
+        }
+        LoadChoice::Nothing => {
+            *answer = [0, 0, 0, on, 0, 0, 0, 0, 0, 0, 0, 0, 0, 0, 0, 0];
+        }
+        LoadChoice::Chosen { start, revision } => {
+            *answer = [
+                0,
+                0,
+                0,
+                on,
+                1,
+                start,
+                revision,
+                start * 2048 + 48,
+                sizes::data_size(blocks::from_block(store, start)),
+                0,
+                0,
+                0,
+                0,
+                0,
+                0,
+                0,
+            ];
+        }
     }
 }

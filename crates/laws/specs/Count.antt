@@ -1,12 +1,15 @@
 -- How many numbers below n pass a test.
 --   countBelow               how many
 --   count-mono, count-cong   who passes one test passes the other; the two tests are the same
+--   count-most, count-up     no more pass than there are, and no fewer below a greater bound
 --   either, second           to pass one of two tests, and to pass the second alone
 --   count-split              those that pass one of two: those that pass the first, and those that pass the second alone
 --   counting                 a loop that counts, as `search` takes it
 use Prim.Native.Nat.{ℕ, zero, suc, _+_, _<_, _≤_}
 use mathlib.Core.Path.{_≡_, refl}
 use mathlib.Core.Bool.{Bool, true, false, cond, not, _&&_, _||_}
+use mathlib.Core.Logic.{⊎-elim}
+use native.Mathlib.Nat.{eq-or-lt-of-le}
 use native.Mathlib.Numerals.{add-one}
 use native.Mathlib.Omega.{arith}
 
@@ -30,6 +33,23 @@ pub count-cong : (p q : ℕ → Bool) (n : ℕ) → ((k : ℕ) → k < n → p k
 unfolding countBelow
 count-cong p q zero h = refl
 count-cong p q (suc n) h = rw (count-cong p q n (λ k l. h k (omega arith)), h n (omega arith))
+
+one-most : (a : Bool) (m : ℕ) → (m ≤ cond a (m + 1) m) × (cond a (m + 1) m ≤ m + 1)
+one-most true m = (omega arith, omega arith)
+one-most false m = (omega arith, omega arith)
+
+pub count-most : (p : ℕ → Bool) (n : ℕ) → countBelow n p ≤ n
+unfolding countBelow
+count-most p zero = omega arith
+count-most p (suc n) = omega (arith, one-most (p n) (countBelow n p) .1, count-most p n)
+
+pub count-up : (p : ℕ → Bool) (m n : ℕ) → m ≤ n → countBelow m p ≤ countBelow n p
+unfolding countBelow
+count-up p m zero l = let e : m ≡ 0 = omega arith in rw e (omega arith)
+count-up p m (suc n) l =
+    ⊎-elim (λ (q : m ≡ suc n). rw q (omega arith))
+    (λ (q : m < suc n). omega (arith, one-most (p n) (countBelow n p) .0, count-up p m n (omega arith)))
+    (eq-or-lt-of-le l)
 
 -- a number passes p or q
 unfoldable pub either : (ℕ → Bool) → (ℕ → Bool) → ℕ → Bool

@@ -1,6 +1,8 @@
 -- The choice of a run, as the program computes it. The candidate takes k blocks; s is a start block, i the number of an update.
 --   touches    the run from s touches update i
 --   goes       update i is emptied if the candidate goes to s
+--   within     all blocks of update i are the run's
+--   fills      update i is emptied, and not all of its blocks are the run's
 --   bars       update i rules s out
 --   loses      update i is lost though it does not share
 --   barred     some update rules s out
@@ -9,7 +11,7 @@
 --   choose     the start of least loss, the lowest on a tie, among those from which the run ends at n or before
 use Prim.Native.Nat.{ℕ, suc, _+_, _-_}
 use mathlib.Core.Bool.{Bool, not, _&&_, _||_}
-use lib.Dec.{ltb}
+use lib.Dec.{ltb, leb}
 use Rattle.laws.specs.Below.{anyBelow}
 use Rattle.laws.specs.Count.{countBelow}
 use Rattle.laws.specs.Least.{Pick, least}
@@ -22,6 +24,14 @@ touches h k s i = ltb s (h .start i + h .size i) && ltb (h .start i) (s + k)
 -- it shares, wherever it lies, or is touched
 unfoldable pub goes : Held → ℕ → ℕ → ℕ → Bool
 goes h k s i = h .shares i || touches h k s i
+
+-- all its blocks are blocks of the run
+unfoldable pub within : Held → ℕ → ℕ → ℕ → Bool
+within h k s i = leb s (h .start i) && leb (h .start i + h .size i) (s + k)
+
+-- what the run covers, the candidate and the FFh behind it overwrite
+unfoldable pub fills : Held → ℕ → ℕ → ℕ → Bool
+fills h k s i = not (within h k s i) && goes h k s i
 
 -- it would be emptied, and covers a listed processor that the candidate doesn't
 unfoldable pub bars : Held → ℕ → ℕ → ℕ → Bool

@@ -3,5 +3,6 @@ pub mod Held
 pub mod Legal
 pub mod Choose
 pub mod Marks
+pub mod Tries
 pub mod Runs
 pub mod Best

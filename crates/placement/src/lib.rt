@@ -2,13 +2,14 @@
 ghost use mathlib.Core.Path.{_≡_};
 ghost use mathlib.Core.Bool.{false, cond, not, _&&_, _||_};
 ghost use Prim.Native.Nat.{_+_, _≤_};
-ghost use lib.Dec.{ltb};
+ghost use lib.Dec.{ltb, leb};
 ghost use Rattle.laws.specs.Below.{anyBelow};
 ghost use Rattle.laws.specs.Count.{countBelow};
 ghost use Rattle.laws.specs.Least.{better};
 ghost use Rattle.laws.specs.Arrays.{Filled};
-ghost use Rattle.placement.specs.Choose.{goes, barred, lost, torn, choose};
-ghost use Rattle.placement.specs.Marks.{held, choiceOf, pickOf};
+ghost use Rattle.placement.specs.Choose.{fills, barred, lost, torn, choose};
+ghost use Rattle.placement.specs.Marks.{held, choiceOf, pickOf, untouched};
+ghost use Rattle.placement.specs.Tries.{limitOf, capped};
 
 // The stored updates in the order of their starts: update i < count starts at a block, has a size in blocks, and two marks against the
 // candidate: it covers a processor that the candidate covers; it covers a listed processor that the candidate doesn't.
@@ -85,54 +86,62 @@ fn barred(m: Marked, k: u32, s: u32) -> bool
     false
 }
 
-// How many updates that do not share does the run touch?
-fn lost(m: Marked, k: u32, s: u32) -> u32
+// How many updates that do not share does the run touch, up to `limit`?
+fn lost(m: Marked, k: u32, s: u32, limit: u32) -> u32
     requires { ⌜ m .count ≤ 32 ⌝ }
-    ensures { λ r. ⌜ r ≡ lost (held m) k s ⌝ }
+    ensures { λ r. ⌜ r ≡ capped limit (lost (held m) k s) ⌝ }
 {
     let mut touched: u32 = 0;
     let mut i: usize = 0;
     while i < m.count {
-        let at = i;
-        i += 1;
-        if loses(m.starts[at], m.sizes[at], m.shares[at], k, s) {
+        if loses(m.starts[i], m.sizes[i], m.shares[i], k, s) {
+            if limit <= touched + 1 {
+                return limit;
+            }
             touched += 1;
+            i += 1;
+        } else {
+            i += 1;
         }
     }
     touched
 }
 
-// The choice so far against a later start.
-fn better(sofar: Choice, s: u32, cost: u32) -> Choice
-    ensures { λ r. ⌜ r ≡ choiceOf (better (pickOf sofar) s cost) ⌝ }
+// How many updates the choice so far touches. A store has at most 32.
+fn limit(sofar: Choice) -> u32
+    ensures { λ r. ⌜ r ≡ limitOf sofar ⌝ }
 {
     match sofar {
-        Choice::Nowhere => Choice::At {
-            start: s,
-            touched: cost,
-        },
-        Choice::At { start: _, touched } => {
-            if cost < touched {
-                Choice::At {
-                    start: s,
-                    touched: cost,
-                }
-            } else {
-                sofar
-            }
-        }
+        Choice::Nowhere => 33,
+        Choice::At { start: _, touched } => touched,
     }
 }
 
-// The choice so far against a later start, which may be ruled out.
+// The choice so far against a later start: taken only if it touches fewer, and is not ruled out.
 fn tried(m: Marked, k: u32, s: u32, sofar: Choice) -> Choice
     requires { ⌜ m .count ≤ 32 ⌝ }
     ensures { λ r. ⌜ r ≡ choiceOf (cond (barred (held m) k s) (pickOf sofar) (better (pickOf sofar) s (lost (held m) k s))) ⌝ }
 {
-    if barred(m, k, s) {
-        sofar
+    let most = limit(sofar);
+    let touched = lost(m, k, s, most);
+    if touched < most {
+        if barred(m, k, s) {
+            sofar
+        } else {
+            Choice::At { start: s, touched }
+        }
     } else {
-        better(sofar, s, lost(m, k, s))
+        sofar
+    }
+}
+
+// Does the choice touch no update that does not share?
+fn untouched(c: Choice) -> bool
+    ensures { λ r. ⌜ r ≡ untouched c ⌝ }
+{
+    match c {
+        Choice::Nowhere => false,
+        Choice::At { start: _, touched } => touched == 0,
     }
 }
 
@@ -145,6 +154,9 @@ pub fn choose_run(m: Marked, n: u32, k: u32) -> Choice
     let mut s: u32 = 0;
     while s as usize + k as usize <= n as usize {
         sofar = tried(m, k, s, sofar);
+        if untouched(sofar) {
+            return sofar;
+        }
         s += 1;
     }
     sofar
@@ -188,16 +200,39 @@ pub fn shared(m: Marked) -> u32
     sharing
 }
 
-// Marks the updates that are emptied if the candidate goes to `s`.
-pub fn emptied(m: Marked, k: u32, s: u32) -> [bool; 32]
-    requires { ⌜ m .count ≤ 32 ⌝ }
-    ensures { λ r. ⌜ Filled false 32 (goes (held m) k s) (m .count) r ⌝ }
+// Are all blocks of the update blocks of the run?
+fn within(start: u32, size: u32, k: u32, s: u32) -> bool
+    ensures { λ r. ⌜ r ≡ leb s start && leb (start + size) (s + k) ⌝ }
 {
-    let mut gone = [false; 32];
+    if s <= start {
+        start as usize + size as usize <= s as usize + k as usize
+    } else {
+        false
+    }
+}
+
+// Is the update emptied, and are not all of its blocks the run's?
+fn fills(start: u32, size: u32, shares: bool, k: u32, s: u32) -> bool
+    ensures { λ r. ⌜ r ≡ not (leb s start && leb (start + size) (s + k)) && (shares || (ltb s (start + size) && ltb start (s + k))) ⌝ }
+{
+    if within(start, size, k, s) {
+        false
+    } else {
+        goes(start, size, shares, k, s)
+    }
+}
+
+// Marks the updates that must be filled with FFh if the candidate goes to `s`: those that are emptied, but for those that the run overwrites
+// whole.
+pub fn to_fill(m: Marked, k: u32, s: u32) -> [bool; 32]
+    requires { ⌜ m .count ≤ 32 ⌝ }
+    ensures { λ r. ⌜ Filled false 32 (fills (held m) k s) (m .count) r ⌝ }
+{
+    let mut marks = [false; 32];
     let mut i: usize = 0;
     while i < m.count {
-        gone[i] = goes(m.starts[i], m.sizes[i], m.shares[i], k, s);
+        marks[i] = fills(m.starts[i], m.sizes[i], m.shares[i], k, s);
         i += 1;
     }
-    gone
+    marks
 }

@@ -9,10 +9,10 @@ pub mod PlanLaws
 pub mod PlanCases
 pub mod Planned
 pub mod Storing
-pub mod WriteCases
 pub mod Join
 pub mod Counts
 pub mod Chosen
 pub mod Gone
 pub mod Answered
 pub mod Theorem
+pub mod WriteCases

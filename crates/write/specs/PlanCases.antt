@@ -1,6 +1,7 @@
 -- The order of checks 1 to 8, a return at each, as `search` takes them.
---   goods     checks 5 to 8
---   plans     checks 1 to 4
+--   markings                   checks 6 to 8
+--   good-absent, good-marked   check 5
+--   plans, good-plan           checks 1 to 4
 use Prim.Native.Nat.{ℕ, _/_, _≤_}
 use mathlib.Core.Path.{_≡_, refl, sym, ap, _∙_}
 use mathlib.Core.Bool.{Bool, true, false, not}
@@ -29,7 +30,7 @@ use Rattle.calls.specs.declared.answer.Answer.{Answer}
 use Rattle.write.specs.Covered.{Covered, coveredIn, one-is}
 use Rattle.write.specs.Marks.{heldIn, outdated}
 use Rattle.write.specs.MarkLaws.{Marks, Agree, held-same, choose-same, shared-same, torn-same}
-use Rattle.write.specs.Write.{placed, goodAnswer, judgedAnswer, planAnswer}
+use Rattle.write.specs.Write.{placed, markedAnswer, goodAnswer, judgedAnswer, planAnswer}
 
 -- a valid store has at most 32 blocks and 65,536 bytes
 pub blocks-few : (old : List ℕ) (d : Directory) → d ≡ directory old → d .ok ≡ true → length old / 2048 ≤ 32
@@ -40,35 +41,41 @@ unfolding placed
 placed-same g h nowhere a = refl
 placed-same g h (at s c) a = rw (shared-same g h a)
 
+-- checks 6 to 8: o is what the test of the revisions answered, t that of the marks
+module _ (old cand : List ℕ) (m : Marked) (k : ℕ) (z : Answer) (o : Bool) (f : o ≡ outdated old cand) where
+  pub marked-outdated : o ≡ true → z ≡ refusal 0x98 0 → z ≡ markedAnswer old cand (held m) k
+  unfolding unless
+  marked-outdated h q = rw (← f, h) q
+
+  module _ (newer : o ≡ false) (t : Bool) (g : t ≡ anyBelow (m .count) (torn (held m))) where
+    torn-is : t ≡ anyBelow (held m .count) (torn (held m))
+    unfolding held
+    torn-is = g
+
+    pub marked-torn : t ≡ true → z ≡ refusal 0x93 4 → z ≡ markedAnswer old cand (held m) k
+    unfolding unless
+    marked-torn h q = rw (← f, newer, ← torn-is, h) q
+
+    pub marked-placed : t ≡ false → z ≡ placed (held m) (choose (length old / 2048) k (held m)) → z ≡ markedAnswer old cand (held m) k
+    unfolding unless blockCount
+    marked-placed h q = rw (← f, newer, ← torn-is, h) q
+
+pub ruleset markings = (marked-outdated, marked-torn, marked-placed)
+
+-- check 5: r is what the test of the candidate's marks answered
 module _ (old signatures platforms cand : List ℕ) (k : ℕ) (marks : List Bool) (z : Answer) (r : Bool) (right : Covered signatures platforms cand marks)
     (e : r ≡ anyBelow (length signatures) (coveredIn marks)) where
   pub good-absent : r ≡ false → z ≡ refusal 0x94 0 → z ≡ goodAnswer old signatures platforms cand k
   unfolding goodAnswer unless
   good-absent h q = rw (← one-is signatures platforms cand marks right r e, h) q
 
-  module _ (present : r ≡ true) (o : Bool) (f : o ≡ outdated old cand) where
-    pub good-outdated : o ≡ true → z ≡ refusal 0x98 0 → z ≡ goodAnswer old signatures platforms cand k
-    unfolding goodAnswer unless
-    good-outdated h q = rw (← one-is signatures platforms cand marks right r e, present, ← f, h) q
-
-    module _ (newer : o ≡ false) (m : Marked) (t : Bool) (g : t ≡ anyBelow (m .count) (torn (held m))) (y : Marks old signatures platforms cand m) where
-      torn-is : t ≡ anyBelow (heldIn old signatures platforms cand .count) (torn (heldIn old signatures platforms cand))
-      unfolding held
-      torn-is = g ∙ torn-same (held m) (heldIn old signatures platforms cand) (held-same old signatures platforms cand m y)
-
-      pub good-torn : t ≡ true → z ≡ refusal 0x93 4 → z ≡ goodAnswer old signatures platforms cand k
-      unfolding goodAnswer unless
-      good-torn h q = rw (← one-is signatures platforms cand marks right r e, present, ← f, newer, ← torn-is, h) q
-
-      pub good-placed : t ≡ false → z ≡ placed (held m) (choose (length old / 2048) k (held m)) → z ≡ goodAnswer old signatures platforms cand k
-      unfolding goodAnswer unless blockCount
-      good-placed h q =
-          let a = held-same old signatures platforms cand m y in
-          rw (← one-is signatures platforms cand marks right r e, present, ← f, newer, ← torn-is, h)
-          (q ∙ placed-same (held m) (heldIn old signatures platforms cand) (choose (length old / 2048) k (held m)) a
-          ∙ ap (placed (heldIn old signatures platforms cand)) (choose-same (held m) (heldIn old signatures platforms cand) a (length old / 2048) k))
-
-pub ruleset goods = (good-absent, good-outdated, good-torn, good-placed)
+  pub good-marked : r ≡ true → (m : Marked) → Marks old signatures platforms cand m → z ≡ markedAnswer old cand (held m) k → z ≡ goodAnswer old signatures platforms cand k
+  unfolding goodAnswer unless
+  good-marked h m y q =
+      let a = held-same old signatures platforms cand m y in
+      let g = heldIn old signatures platforms cand in
+      rw (← one-is signatures platforms cand marks right r e, h)
+      (q ∙ rw (torn-same (held m) g a, choose-same (held m) g a (blockCount old) k, placed-same (held m) g (choose (blockCount old) k g) a))
 
 -- d is the directory that was read, l what the list's rule answered, v the verdict
 module _ (old signatures platforms cand : List ℕ) (d : Directory) (z : Answer) (e : d ≡ directory old) where
@@ -93,5 +100,10 @@ module _ (old signatures platforms cand : List ℕ) (d : Directory) (z : Answer)
       pub plan-good : (t b n k : ℕ) → v ≡ Good t b n k → z ≡ goodAnswer old signatures platforms cand k → z ≡ planAnswer old signatures platforms cand
       unfolding planAnswer unless judgedAnswer
       plan-good t b n k h q = rw (← directory-ok old d e, ok, ← f, good, ← g, h) q
+
+-- the same, before the answer is there
+pub good-plan : (old signatures platforms cand : List ℕ) (d : Directory) → d ≡ directory old → d .ok ≡ true → (l : Bool) → l ≡ listOk signatures platforms → l ≡ true
+    → (v : Verdict) → v ≡ verdict cand → (t b n k : ℕ) → v ≡ Good t b n k → goodAnswer old signatures platforms cand k ≡ planAnswer old signatures platforms cand
+good-plan old signatures platforms cand d e ok l f good v g t b n k h = plan-good old signatures platforms cand d (goodAnswer old signatures platforms cand k) e ok l f good v g t b n k h refl
 
 pub ruleset plans = (plan-bad, plan-list, plan-header, plan-sum, plan-good)

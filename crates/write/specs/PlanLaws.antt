@@ -1,7 +1,6 @@
--- Laws of the plan: the answers of checks 1 to 8 as the code takes them.
---   NoWrite, Marking    an answer is no written one; the marks are right where it is one
---   placing             check 8, as `search` takes it
---   planning            checks 1 to 7, as `search` takes them
+-- Laws of check 8: the choice of a run, as the code takes it.
+--   placing    by cases of the choice, as `search` takes them
+--   place-few  no more are emptied than there are
 use Prim.Native.Nat.{ℕ, zero, suc, _+_, _-_, _/_, _<_, _≤_}
 use mathlib.Core.Path.{_≡_, refl, sym, ap, _∙_, subst}
 use mathlib.Core.Bool.{Bool, true, false, cond, not, _&&_}
@@ -9,7 +8,7 @@ use mathlib.Core.List.{List}
 use native.Mathlib.Omega.{arith}
 use lib.ListN.{length}
 use Rattle.laws.specs.Below.{anyBelow}
-use Rattle.laws.specs.Count.{countBelow}
+use Rattle.laws.specs.Count.{countBelow, count-most}
 use Rattle.laws.specs.Least.{Pick, nowhere, at, least, IsLeast, Promised, least-promised}
 use Rattle.laws.specs.Unless.{unless}
 use Rattle.update.specs.Verdict.{verdict}
@@ -35,35 +34,6 @@ use Rattle.write.specs.Covered.{Covered, coveredIn, one-is}
 use Rattle.write.specs.Marks.{heldIn, outdated}
 use Rattle.write.specs.MarkLaws.{Marks, Agree, held-same, choose-same, shared-same, torn-same}
 use Rattle.write.specs.Write.{written, placed, goodAnswer, judgedAnswer, planAnswer}
-
-unfoldable pub NoWrite : Answer → Type 0
-NoWrite a = (w : WrittenNumbers) → a ≡ Written w → ⊥
-
--- a refusal is no written answer
-pub refusal-no : (ah al : ℕ) → NoWrite (refusal ah al)
-unfolding NoWrite
-refusal-no ah al w e = let z : _≡_ {A = ℕ} 0 1 = cc in omega arith
-
-unfoldable pub Marking : List ℕ → List ℕ → List ℕ → List ℕ → Answer → Marked → Type 0
-Marking old signatures platforms cand a m = (w : WrittenNumbers) → a ≡ Written w → Marks old signatures platforms cand m
-
-pub no-marking : (old signatures platforms cand : List ℕ) (a : Answer) (m : Marked) → NoWrite a → Marking old signatures platforms cand a m
-unfolding NoWrite Marking
-no-marking old signatures platforms cand a m h w e = absurd (h w e)
-
-pub marking-all : (old signatures platforms cand : List ℕ) (a : Answer) (m : Marked) → Marks old signatures platforms cand m → Marking old signatures platforms cand a m
-unfolding Marking
-marking-all old signatures platforms cand a m h w e = h
-
--- no more pass than there are
-count-most : (p : ℕ → Bool) (n : ℕ) → countBelow n p ≤ n
-unfolding countBelow
-count-most p zero = omega arith
-count-most p (suc n) = go (count-most p n) (p n)
-  where
-    go : countBelow n p ≤ n → (t : Bool) → cond t (countBelow n p + 1) (countBelow n p) ≤ suc n
-    go h true = omega arith
-    go h false = omega arith
 
 choose-most : (h : Held) (n k s c : ℕ) → choose n k h ≡ at s c → c ≤ h .count
 unfolding choose lost

@@ -1,7 +1,8 @@
 -- What the write answers, and the bytes that it leaves (document 01, "The calls", 1): each code exactly when its rule says, in the order 1 to 9.
---   placed          checks 8 and 9 of the choice of a run
---   goodAnswer      checks 5 to 9 of a candidate that passes checks 2 to 4
---   judged          checks 2 to 4
+--   placed          check 8 of the choice of a run
+--   markedAnswer    checks 6 to 8, by the stored updates' marks
+--   goodAnswer      checks 5 to 8 of a candidate that passes checks 2 to 4
+--   judgedAnswer    checks 2 to 8
 --   planAnswer      checks 1 to 8: a refusal, or the start and the emptied count
 --   writeAnswer     all of them
 --   goes            the update at block b is emptied: it shares, wherever it lies, or the run touches it
@@ -39,13 +40,18 @@ unfoldable pub placed : Held → Pick → Answer
 placed h nowhere = refusal 0x93 5
 placed h (at start touched) = written start (countBelow (h .count) (h .shares) + touched)
 
--- checks 5 to 8 for a candidate of k blocks
+-- checks 6 to 8 for a candidate of k blocks, h being the stored updates
+abbrev pub markedAnswer : List ℕ → List ℕ → Held → ℕ → Answer
+markedAnswer old cand h k =
+    unless (not (outdated old cand)) (refusal 0x98 0)
+    (unless (not (anyBelow (h .count) (torn h))) (refusal 0x93 4)
+    (placed h (choose (blockCount old) k h)))
+
+-- checks 5 to 8
 unfoldable pub goodAnswer : List ℕ → List ℕ → List ℕ → List ℕ → ℕ → Answer
 goodAnswer old signatures platforms cand k =
     unless (coversOne signatures platforms cand) (refusal 0x94 0)
-    (unless (not (outdated old cand)) (refusal 0x98 0)
-    (unless (not (anyBelow (heldIn old signatures platforms cand .count) (torn (heldIn old signatures platforms cand)))) (refusal 0x93 4)
-    (placed (heldIn old signatures platforms cand) (choose (blockCount old) k (heldIn old signatures platforms cand)))))
+    (markedAnswer old cand (heldIn old signatures platforms cand) k)
 
 -- checks 2 to 8
 unfoldable pub judgedAnswer : List ℕ → List ℕ → List ℕ → List ℕ → Verdict → Answer

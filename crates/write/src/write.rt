@@ -1,17 +1,25 @@
 // Sub-function 1, write.
 ghost use mathlib.Core.Path.{_≡_};
-ghost use Rattle.update.specs.Fields.{totalSize};
+ghost use mathlib.Core.Bool.{true};
+ghost use Rattle.update.specs.Fields.{revision, totalSize};
+ghost use Rattle.store.specs.Scan.{directory};
+ghost use Rattle.outcome.specs.Processors.{listOk};
 ghost use Rattle.outcome.specs.Bytes.{outcomeBytes};
-ghost use Rattle.write.specs.Write.{goes, writeAnswer, writeBytes};
+ghost use Rattle.write.specs.Write.{goes, goodAnswer, planAnswer, readBack, writeAnswer, bytesAfter, writeBytes};
 ghost use Rattle.write.specs.Demand.{Passes, Demand3};
-ghost use Rattle.write.specs.Storing.{Storing};
+ghost use Rattle.write.specs.Storing.{Storing, Storable};
+use crate::marks;
 use crate::plan;
+use crate::processors;
 use calls::answer;
 use calls::answer::Answer;
 use outcome::bytes;
 use placement::Marked;
+use store::directory;
+use store::directory::Directory;
 use update::fields;
 use update::sizes;
+use update::verdict::Verdict;
 
 // Empties all sharing updates, wherever they lie, and all that the run touches, and puts the candidate at the start.
 fn store_candidate(store: &mut [u8], m: Marked, start: u32, candidate: &[u8])
@@ -19,7 +27,7 @@ fn store_candidate(store: &mut [u8], m: Marked, start: u32, candidate: &[u8])
     ensures { λ _. ⌜ now (store .exit) ≡ outcomeBytes (now (store .entry)) (totalSize (now (candidate .entry))) (now (candidate .entry)) start (goes (now (store .entry)) (now (candidate .entry)) start) ⌝ }
 {
     let t = sizes::total_size(candidate);
-    let gone = placement::emptied(m, sizes::blocks_of(t), start);
+    let gone = placement::to_fill(m, sizes::blocks_of(t), start);
     let starts = m.starts;
     let sizes = m.sizes;
     bytes::write_bytes(
@@ -34,6 +42,55 @@ fn store_candidate(store: &mut [u8], m: Marked, start: u32, candidate: &[u8])
     );
 }
 
+// Check 9, and the bytes. `planned` is the answer of checks 1 to 8.
+fn finish(store: &mut [u8], m: Marked, planned: Answer, candidate: &[u8], back: u32) -> Answer
+    requires { ⌜ Storable (now store) (now candidate) m planned ⌝ }
+    ensures answers { λ r. ⌜ r ≡ readBack back (revision (now (candidate .entry))) planned ⌝ }
+    ensures stores { λ r. ⌜ now (store .exit) ≡ bytesAfter (now (store .entry)) (now (candidate .entry)) r ⌝ }
+{
+    match planned {
+        Answer::Written(w) => {
+            let revision = fields::revision(candidate);
+            if back == revision {
+                let start = w.start;
+                store_candidate(store, m, start, candidate);
+                planned
+            } else {
+                answer::refuse(0x97, 0)
+            }
+        }
+        Answer::Presence(_) => planned,
+        Answer::Control(_) => planned,
+        Answer::Read(_) => planned,
+        Answer::Refused(_) => planned,
+    }
+}
+
+// Checks 5 to 9 and the bytes, for a candidate of `k` blocks that passes checks 2 to 4.
+fn write_good(
+    store: &mut [u8],
+    d: Directory,
+    signatures: &[u32],
+    platforms: &[u8],
+    candidate: &[u8],
+    back: u32,
+    k: u32,
+) -> Answer
+    requires { ⌜ (d ≡ directory (now store)) × (d .ok ≡ true) × (listOk (now signatures) (now platforms) ≡ true) ⌝ }
+    requires { ⌜ goodAnswer (now store) (now signatures) (now platforms) (now candidate) k ≡ planAnswer (now store) (now signatures) (now platforms) (now candidate) ⌝ }
+    ensures answers { λ r. ⌜ r ≡ readBack back (revision (now (candidate .entry))) (goodAnswer (now (store .entry)) (now (signatures .entry)) (now (platforms .entry)) (now (candidate .entry)) k) ⌝ }
+    ensures stores { λ r. ⌜ now (store .exit) ≡ bytesAfter (now (store .entry)) (now (candidate .entry)) r ⌝ }
+{
+    let covered = processors::covered(signatures, platforms, candidate);
+    if processors::covers_one(covered, signatures.len()) {
+        let m = marks::mark(store, d, signatures, platforms, covered, candidate);
+        let planned = plan::plan_marked(store, m, candidate, k);
+        finish(store, m, planned, candidate, back)
+    } else {
+        answer::refuse(0x94, 0)
+    }
+}
+
 // The write call: its checks in their order 1 to 9, then the bytes. A refusal changes no byte.
 pub fn write(
     store: &mut [u8],
@@ -46,23 +103,25 @@ pub fn write(
     ensures stores { λ r. ⌜ now (store .exit) ≡ writeBytes (now (store .entry)) (now (signatures .entry)) (now (platforms .entry)) (now (candidate .entry)) back ⌝ }
     ensures demand { λ r. ⌜ (Passes (now (store .entry)) (now (signatures .entry)) (now (platforms .entry)) (now (candidate .entry)) → Demand3 (now (store .entry)) (now (signatures .entry)) (now (platforms .entry)) (now (candidate .entry)) back r (now (store .exit))) ⌝ }
 {
-    let p = plan::plan_write(store, signatures, platforms, candidate);
-    let answer = p.answer;
-    match answer {
-        Answer::Written(w) => {
-            let revision = fields::revision(candidate);
-            if back == revision {
-                let m = p.marked;
-                let start = w.start;
-                store_candidate(store, m, start, candidate);
-                answer
-            } else {
-                answer::refuse(0x97, 0)
+    let d = directory::read_store(store);
+    let ok = d.ok;
+    if ok {
+        if processors::list_ok(signatures, platforms) {
+            let checked = update::verdict::check_update(candidate);
+            match checked {
+                Verdict::BadHeader => answer::refuse(0x95, 0),
+                Verdict::BadSum => answer::refuse(0x96, 0),
+                Verdict::Good {
+                    total: _,
+                    data: _,
+                    entries: _,
+                    blocks,
+                } => write_good(store, d, signatures, platforms, candidate, back, blocks),
             }
+        } else {
+            answer::refuse(0x92, 2)
         }
-        Answer::Presence(_) => answer,
-        Answer::Control(_) => answer,
-        Answer::Read(_) => answer,
-        Answer::Refused(_) => answer,
+    } else {
+        answer::refuse(0x92, 1)
     }
 }

@@ -1,4 +1,4 @@
--- `update_store_call` meets its contract: the call's reply, laid out.
+-- `update_store_call` meets its contract: the reply of the call, laid out.
 use mathlib.Core.Path.{_≡_, ap, _∙_}
 use borrow.Author.Needs.{needs}
 use Rattle.calls.specs.declared.answer.Reply.{Reply}
@@ -8,7 +8,7 @@ use Rattle.board.proofs.update_store_call.Tie as tie
 
 returns : tie.Need-returns
 returns c =
-    let e = c .before .before .before .before .before .before .call .ensures in
+    let e = c .before .before .before .before .before .before .before .call .ensures in
     (c .ax .ensures ∙ ap (λ (r : Reply). axOf (r .answer)) (e .0), (c .before .call-words .ensures ∙ ap callWords (e .0), (e .1 .0, e .1 .1)))
 
 pub update-store-call-spec : {M : Type 1} → statement M

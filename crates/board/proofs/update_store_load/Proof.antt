@@ -8,11 +8,11 @@ use Rattle.board.proofs.update_store_load.Statement.{statement}
 use Rattle.board.proofs.update_store_load.Tie as tie
 
 load-words-requires : tie.Need-load-words-requires
-load-words-requires c κs = load-inside _ _ _ _ _ (c .choose .ensures)
+load-words-requires c κs = load-inside _ _ _ _ _ (c .before .choose .ensures)
 
 returns : tie.Need-returns
 returns c =
-    let e = c .before .before .choose .ensures in
+    let e = c .before .before .before .choose .ensures in
     (c .load-ax .ensures ∙ ap loadAx e, c .before .load-words .ensures ∙ ap (loadWords _ _) e)
 
 pub update-store-load-spec : {M : Type 1} → statement M

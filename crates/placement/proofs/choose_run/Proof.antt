@@ -1,4 +1,4 @@
--- `placement::choose_run` meets its contract. The loop's invariant: `sofar` is the choice among the starts passed.
+-- `placement::choose_run` meets its contract. The loop's invariant: `sofar` is the choice among the starts passed. It stops at one that touches nothing.
 use borrow.Author.Needs.{needs}
 use mathlib.Core.Path.{_≡_}
 use Prim.Native.Nat.{suc, _≤_, _-_}
@@ -25,6 +25,8 @@ choose-run-spec =
     (search needs)
     (search needs)
     (search needs)
+    (search needs)
+    (λ c. search (needs, picking))
     (search needs)
     (search needs)
     (λ c. search (needs, picking))

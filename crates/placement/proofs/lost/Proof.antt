@@ -1,27 +1,28 @@
--- `placement::lost` meets its contract. The loop's invariant: `touched` counts the updates passed that are lost.
+-- `placement::lost` meets its contract. The loop's invariant: `touched` counts the updates passed that are lost, and stays below the limit.
 use borrow.Author.Needs.{needs}
 use mathlib.Core.Path.{_≡_}
 use Prim.Native.Nat.{_≤_, _-_}
-use Rattle.laws.specs.Count.{countBelow, counting}
-use Rattle.placement.specs.Choose.{touches, loses, lost}
+use Rattle.laws.specs.Count.{countBelow}
+use Rattle.placement.specs.Choose.{touches, loses}
 use Rattle.placement.specs.Marks.{held}
+use Rattle.placement.specs.Tries.{losing}
 use Rattle.placement.proofs.lost.Statement.{statement}
 use Rattle.placement.proofs.lost.Tie as tie
 
 abbrev Inv-loop : tie.InvT-loop
-Inv-loop k s m touched₀ i₀ touched i = (i ≤ m .count) × (touched ≤ i) × (touched ≡ countBelow i (loses (held m) k s))
+Inv-loop k s limit m touched₀ i₀ touched i = (i ≤ m .count) × (touched ≤ i) × (touched ≤ limit - 1) × (touched ≡ countBelow i (loses (held m) k s))
 
 abbrev μ-loop : tie.MeasureT-loop
-μ-loop k s m touched₀ i₀ touched i = m .count - i
+μ-loop k s limit m touched₀ i₀ touched i = m .count - i
 
 pub lost-spec : {M : Type 1} → statement M
-unfolding lost loses touches held
+unfolding loses touches held
 lost-spec =
     tie.close
     (tie.spec
     Inv-loop
     μ-loop
-    (λ c. search (needs, counting))
+    (λ c. search (needs, losing))
     (search needs)
     (search needs)
     (search needs)
@@ -29,9 +30,12 @@ lost-spec =
     (search needs)
     (search needs)
     (search needs)
+    (λ c. search (needs, losing))
     (search needs)
     (search needs)
-    (λ c. search (needs, counting))
     (search needs)
-    (λ c. search (needs, counting))
-    (λ c. search (needs, counting)))
+    (λ c. search (needs, losing))
+    (search needs)
+    (search needs)
+    (λ c. search (needs, losing))
+    (λ c. search (needs, losing)))

@@ -19,4 +19,4 @@ store-candidate-spec =
     (search needs)
     (λ c.
     let at = c .before .before .before .before .before .before .before .before in
-    stored-bytes _ _ _ _ (at .before .before .before .pre) _ _ _ _ (at .total-size .ensures) (c .before .before .before .before .before .before .before .blocks-of .ensures) (c .before .before .before .before .before .before .emptied .ensures) (c .before .before .write-bytes .ensures)))
+    stored-bytes _ _ _ _ (at .before .before .before .pre) _ _ _ _ (at .total-size .ensures) (c .before .before .before .before .before .before .before .blocks-of .ensures) (c .before .before .before .before .before .before .to-fill .ensures) (c .before .before .write-bytes .ensures)))

@@ -1,29 +1,29 @@
--- `placement::emptied` meets its contract. The loop's invariant: the marks passed are right.
+-- `placement::to_fill` meets its contract. The loop's invariant: the marks passed are right.
 use mathlib.Core.Path.{refl}
 use mathlib.Core.Bool.{false}
 use Prim.Native.Nat.{_≤_, _-_}
 use native.Mathlib.Omega.{arith}
 use borrow.Author.Needs.{needs}
 use Rattle.laws.specs.Arrays.{Filled, filled-none, filled-more, filled-all}
-use Rattle.placement.specs.Choose.{touches, goes}
+use Rattle.placement.specs.Choose.{touches, goes, within, fills}
 use Rattle.placement.specs.Marks.{held}
-use Rattle.placement.proofs.emptied.Statement.{statement}
-use Rattle.placement.proofs.emptied.Tie as tie
+use Rattle.placement.proofs.to_fill.Statement.{statement}
+use Rattle.placement.proofs.to_fill.Tie as tie
 
 abbrev Inv-loop : tie.InvT-loop
-Inv-loop k s m gone₀ i₀ gone i = (i ≤ m .count) × Filled false 32 (goes (held m) k s) i gone
+Inv-loop k s m marks₀ i₀ marks i = (i ≤ m .count) × Filled false 32 (fills (held m) k s) i marks
 
 abbrev μ-loop : tie.MeasureT-loop
-μ-loop k s m gone₀ i₀ gone i = m .count - i
+μ-loop k s m marks₀ i₀ marks i = m .count - i
 
 loop-again : tie.Need-loop-again Inv-loop μ-loop
-unfolding goes touches held
+unfolding fills within goes touches held
 loop-again c =
     let at = c .before .before .before .before .before in
-    (omega arith, filled-more _ _ _ _ _ _ (at .loop .inv .1) (omega arith) (c .goes .ensures))
+    (omega arith, filled-more _ _ _ _ _ _ (at .loop .inv .1) (omega arith) (c .fills .ensures))
 
-pub emptied-spec : {M : Type 1} → statement M
-emptied-spec =
+pub to-fill-spec : {M : Type 1} → statement M
+to-fill-spec =
     tie.close
     (tie.spec
     Inv-loop

@@ -1,0 +1,89 @@
+-- One more start against the choice so far. How many updates it loses matters only if they are fewer than the choice so far loses.
+--   limitOf      how many the choice so far loses; one more than a store can lose where there is none
+--   capped       a number, up to a limit
+--   losing       the loop that counts up to a limit, as `search` takes it
+--   trying       the three ways of one more start, as `search` takes them
+use Prim.Native.Nat.{ℕ, _+_, _-_, _<_, _≤_}
+use mathlib.Core.Path.{_≡_, refl, sym, ap, _∙_}
+use mathlib.Core.Bool.{Bool, true, false, cond}
+use mathlib.Core.Logic.{⊎-elim}
+use native.Mathlib.Omega.{arith}
+use lib.Dec.{ltb}
+use borrow.Author.Tests.{lt-ltb, le-ltb}
+use Rattle.laws.specs.Count.{countBelow, count-most, count-up, count-none, count-yes, count-no}
+use Rattle.laws.specs.Orders.{le-or-lt}
+use Rattle.laws.specs.Least.{Pick, nowhere, at, better}
+use Rattle.placement.specs.declared.Marked.{Marked}
+use Rattle.placement.specs.declared.Choice.{Choice}
+use Rattle.placement.specs.declared.Choice.the-variants.{At, Nowhere}
+use Rattle.placement.specs.Held.{Held}
+use Rattle.placement.specs.Choose.{loses, barred, lost}
+use Rattle.placement.specs.Marks.{held, choiceOf, pickOf, choice-pick}
+
+abbrev pub limitOf : Choice → ℕ
+limitOf Nowhere = 33
+limitOf (At s c) = c
+
+unfoldable pub capped : ℕ → ℕ → ℕ
+capped limit c = cond (ltb c limit) c limit
+
+capped-less : (limit c : ℕ) → c < limit → capped limit c ≡ c
+unfolding capped
+capped-less limit c l = rw (lt-ltb c limit l)
+
+capped-more : (limit c : ℕ) → limit ≤ c → capped limit c ≡ limit
+unfolding capped
+capped-more limit c l = rw (le-ltb c limit l)
+
+-- the loop: c is the count so far
+module _ (h : Held) (k s limit i c : ℕ) (e : c ≡ countBelow i (loses h k s)) where
+  pub lose-stop : (r : Bool) (n : ℕ) → n ≡ h .count → i < n → r ≡ loses h k s i → r ≡ true → limit ≤ c + 1 → limit ≡ capped limit (lost h k s)
+  unfolding lost
+  lose-stop r n q l f t m =
+      let y = count-up (loses h k s) (i + 1) (h .count) (omega arith) in
+      let z = count-yes (loses h k s) i c e r f t in
+      sym (capped-more limit (countBelow (h .count) (loses h k s)) (omega arith))
+
+  pub lose-done : (n : ℕ) → n ≡ h .count → i ≤ n → n ≤ i → c ≤ limit - 1 → c ≡ capped limit (lost h k s)
+  unfolding lost
+  lose-done n q l m u =
+      let w : i ≡ h .count = omega arith in
+      let z : c ≡ countBelow (h .count) (loses h k s) = rw w at e in
+      ⊎-elim
+      (λ (x : limit ≤ c). let v : c ≡ limit = omega arith in v ∙ sym (capped-more limit (countBelow (h .count) (loses h k s)) (omega arith)))
+      (λ (x : c < limit). z ∙ sym (capped-less limit (countBelow (h .count) (loses h k s)) (omega arith)))
+      (le-or-lt limit c)
+
+pub ruleset losing = (count-none, count-yes, count-no, lose-stop, lose-done)
+
+-- l is the limit, c how many are lost, up to it, b whether some update rules the start out
+module _ (h : Held) (k s : ℕ) (sofar : Choice) (l c : ℕ) (e : l ≡ limitOf sofar) (f : c ≡ capped l (lost h k s)) where
+  less-is : c < l → c ≡ lost h k s
+  less-is x =
+      ⊎-elim (λ (y : l ≤ lost h k s). let z = capped-more l (lost h k s) y in absurd (omega arith))
+      (λ (y : lost h k s < l). f ∙ capped-less l (lost h k s) y)
+      (le-or-lt l (lost h k s))
+
+  taken : (o : Choice) → l ≡ limitOf o → c < l → At s c ≡ choiceOf (better (pickOf o) s (lost h k s))
+  taken Nowhere q x = ap (At s) (less-is x)
+  taken (At t d) q x = let y = less-is x in rw (lt-ltb (lost h k s) d (omega arith)) (ap (At s) y)
+
+  stays : (o : Choice) → l ≡ limitOf o → l ≤ c → h .count ≤ 32 → (b : Bool) → o ≡ choiceOf (cond b (pickOf o) (better (pickOf o) s (lost h k s)))
+  unfolding lost
+  stays o q x few true = choice-pick o
+  stays Nowhere q x few false = let z = count-most (loses h k s) (h .count) in let y = capped-less l (countBelow (h .count) (loses h k s)) (omega arith) in absurd (omega arith)
+  stays (At t d) q x few false =
+      ⊎-elim (λ (y : l ≤ lost h k s). rw (le-ltb (lost h k s) d (omega arith)))
+      (λ (y : lost h k s < l). let z = capped-less l (lost h k s) y in absurd (omega arith))
+      (le-or-lt l (lost h k s))
+
+  pub try-barred : (b : Bool) → b ≡ barred h k s → b ≡ true → sofar ≡ choiceOf (cond (barred h k s) (pickOf sofar) (better (pickOf sofar) s (lost h k s)))
+  try-barred b g t = rw (← g, t) (choice-pick sofar)
+
+  pub try-taken : (b : Bool) → b ≡ barred h k s → b ≡ false → c < l → At s c ≡ choiceOf (cond (barred h k s) (pickOf sofar) (better (pickOf sofar) s (lost h k s)))
+  try-taken b g t x = rw (← g, t) (taken sofar e x)
+
+  pub try-dear : l ≤ c → (n : ℕ) → n ≡ h .count → n ≤ 32 → sofar ≡ choiceOf (cond (barred h k s) (pickOf sofar) (better (pickOf sofar) s (lost h k s)))
+  try-dear x n q few = stays sofar e x (omega arith) (barred h k s)
+
+pub ruleset trying = (try-barred, try-taken, try-dear)

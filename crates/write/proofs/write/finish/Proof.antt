@@ -1,0 +1,34 @@
+-- `write::write::finish` meets its contract: check 9, then the bytes, by cases of the answer of checks 1 to 8.
+use mathlib.Core.Path.{refl, sym, _∙_}
+use borrow.Author.Needs.{needs}
+use Rattle.write.specs.Storing.{storing}
+use Rattle.write.specs.WriteCases.{back-right, bytes-written, answered, left}
+use Rattle.write.proofs.write.finish.Statement.{statement}
+use Rattle.write.proofs.write.finish.Tie as tie
+
+-- the read-back revision is the candidate's
+returns : tie.Need-returns
+returns c =
+    let read = c .before .before .before .before .before in
+    let h = read .before .before .planned .given .1 in
+    (sym h ∙ back-right _ _ _ _ _ h (read .revision .ensures) (c .before .before .before .before .if1 .taken), bytes-written _ _ _ _ _ refl (c .before .before .store-candidate .ensures))
+
+pub finish-spec : {M : Type 1} → statement M
+finish-spec =
+    tie.close
+    (tie.spec
+    (search needs)
+    (search needs)
+    (λ c κs. search storing)
+    (search needs)
+    (search needs)
+    (search needs)
+    (search needs)
+    (search needs)
+    (search needs)
+    returns
+    (λ c. (search answered, search left))
+    (λ c. (search answered, search left))
+    (λ c. (search answered, search left))
+    (λ c. (search answered, search left))
+    (λ c. (search answered, search left)))

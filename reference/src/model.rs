@@ -1,0 +1,147 @@
+//! The calls and the load choice, answered in the words of the C interface.
+
+use crate::calls::{
+    Answer, Call, Request, BLOCK, CONTROL, FUNCTION, NOT_EMPTY, NOT_IMPLEMENTED, PRESENCE, READ,
+    READ_FAILURE, SUCCESS, UPDATE_NUM_INVALID, WRITE,
+};
+use crate::store::Store;
+use crate::write::write;
+
+/// The cases in word 4 of an update call's answer.
+const PRESENCE_CASE: u32 = 0;
+const WRITTEN_CASE: u32 = 1;
+const CONTROL_CASE: u32 = 2;
+const READ_CASE: u32 = 3;
+const REFUSED_CASE: u32 = 4;
+
+/// The cases in word 4 of the load choice's answer.
+const NOTHING_CASE: u32 = 0;
+const CHOSEN_CASE: u32 = 1;
+const LOAD_REFUSED_CASE: u32 = 2;
+
+/// What a call answers and leaves behind.
+pub fn answer(call: &Call) -> Answer {
+    match call.request {
+        Request::Load {
+            signature,
+            platform,
+        } => load(call, signature, platform),
+        Request::Update {
+            function,
+            sub_function,
+            task,
+            block,
+            read_back,
+        } => {
+            if function != FUNCTION {
+                return refused(call, NOT_IMPLEMENTED, 0);
+            }
+            match sub_function {
+                PRESENCE => presence(call),
+                WRITE => written(call, read_back),
+                CONTROL => control(call, task),
+                READ => read(call, block),
+                _ => refused(call, NOT_IMPLEMENTED, 0),
+            }
+        }
+    }
+}
+
+/// An answer that leaves store, destination and loading as they stood.
+fn plain(call: &Call, ah: u32, al: u32, case: u32, numbers: &[u32]) -> Answer {
+    let mut words = [0; 16];
+    words[0] = ah;
+    words[1] = al;
+    words[2] = u32::from(ah != 0);
+    words[3] = u32::from(call.loading);
+    words[4] = case;
+    words[5..5 + numbers.len()].copy_from_slice(numbers);
+    Answer {
+        ax: ah * 256 + al,
+        words,
+        store: call.store.clone(),
+        destination: call.destination.clone(),
+    }
+}
+
+fn refused(call: &Call, ah: u32, al: u32) -> Answer {
+    plain(call, ah, al, REFUSED_CASE, &[0])
+}
+
+fn presence(call: &Call) -> Answer {
+    let Some(store) = Store::parse(&call.store) else {
+        return refused(call, READ_FAILURE, 1);
+    };
+    let mut numbers: Vec<u32> = b"INTELPEP".iter().map(|&byte| u32::from(byte)).collect();
+    numbers.push(1);
+    numbers.push(store.blocks as u32);
+    plain(call, SUCCESS, 0, PRESENCE_CASE, &numbers)
+}
+
+fn written(call: &Call, read_back: u32) -> Answer {
+    match write(call, read_back) {
+        Err((ah, al)) => refused(call, ah, al),
+        Ok((outcome, bytes)) => {
+            let numbers = [outcome.start as u32, outcome.emptied_count()];
+            let mut answer = plain(call, SUCCESS, 0, WRITTEN_CASE, &numbers);
+            answer.store = bytes;
+            answer
+        }
+    }
+}
+
+fn control(call: &Call, task: u32) -> Answer {
+    let loading = match task {
+        1 => true,
+        2 => call.loading,
+        _ => return plain(call, NOT_IMPLEMENTED, 0, REFUSED_CASE, &[0xFF]),
+    };
+    let mut answer = plain(call, SUCCESS, 0, CONTROL_CASE, &[u32::from(loading)]);
+    answer.words[3] = u32::from(loading);
+    answer
+}
+
+fn read(call: &Call, block: u32) -> Answer {
+    let Some(store) = Store::parse(&call.store) else {
+        return refused(call, READ_FAILURE, 1);
+    };
+    if u64::from(block) >= store.blocks as u64 {
+        return refused(call, UPDATE_NUM_INVALID, 0);
+    }
+    let block = block as usize;
+    let blocks = match store.owner(block) {
+        None => 1,
+        Some(index) if store.held[index].first == block => store.held[index].blocks,
+        Some(_) => return refused(call, NOT_EMPTY, 0),
+    };
+    if call.destination.len() < blocks * BLOCK {
+        return refused(call, READ_FAILURE, 3);
+    }
+    let mut answer = plain(call, SUCCESS, 0, READ_CASE, &[blocks as u32]);
+    answer.destination[..blocks * BLOCK]
+        .copy_from_slice(&call.store[block * BLOCK..(block + blocks) * BLOCK]);
+    answer
+}
+
+fn load(call: &Call, signature: u32, platform: u32) -> Answer {
+    let Some(store) = Store::parse(&call.store) else {
+        return plain(call, READ_FAILURE, 1, LOAD_REFUSED_CASE, &[]);
+    };
+    if platform > 7 {
+        return plain(call, READ_FAILURE, 2, LOAD_REFUSED_CASE, &[]);
+    }
+    let mut held = store.held.iter();
+    let chosen = held.find(|held| held.update.covers((signature, platform)));
+    match chosen {
+        Some(held) if call.loading => {
+            let numbers = [
+                held.first as u32,
+                held.update.revision,
+                (held.first * BLOCK + 48) as u32,
+                held.update.sizes.data as u32,
+            ];
+            plain(call, SUCCESS, 0, CHOSEN_CASE, &numbers)
+        }
+        _ => plain(call, SUCCESS, 0, NOTHING_CASE, &[]),
+    }
+}
