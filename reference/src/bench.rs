@@ -1,7 +1,8 @@
 //! Times the library beside the fast form on the same work, in one process.
 //!
 //! A time is the least over many rounds of many calls, with warm buffers; the rounds
-//! of both sides take turns. Where the write is accepted, the store is put back by a
+//! of both sides take turns. Each whole run is a process of its own, since a short
+//! call's time depends on where the stack and the buffers happen to lie. Where the write is accepted, the store is put back by a
 //! copy before every call, and the time of that copy alone is taken off both sides.
 
 use crate::board;
@@ -10,8 +11,13 @@ use crate::edges::{base, writing};
 use crate::fast;
 use crate::make::{self, Recipe};
 use crate::update::Pair;
+use std::env;
 use std::hint::black_box;
+use std::process::Command;
 use std::time::Instant;
+
+/// The command of one whole run.
+pub const ONE_RUN: &str = "bench-run";
 
 const ROUNDS: usize = 40;
 
@@ -305,14 +311,51 @@ fn speed(bytes: usize, time: f64) -> f64 {
     bytes as f64 / time
 }
 
+/// One whole run: a line for each work, with the two times.
+pub fn one_run() {
+    let works = works();
+    works.iter().for_each(Work::check);
+    for work in &works {
+        let times = work.time();
+        println!("{} {}", times.library, times.rust);
+    }
+}
+
+/// The times that one whole run gives, in a process of its own.
+fn run_apart(works: usize) -> Result<Vec<Times>, String> {
+    let program = env::current_exe().map_err(|error| error.to_string())?;
+    let output = Command::new(program)
+        .arg(ONE_RUN)
+        .output()
+        .map_err(|error| error.to_string())?;
+    if !output.status.success() {
+        return Err(String::from_utf8_lossy(&output.stderr).into_owned());
+    }
+    let text = String::from_utf8_lossy(&output.stdout);
+    let times: Vec<Times> = text
+        .lines()
+        .filter_map(|line| {
+            let (library, rust) = line.split_once(' ')?;
+            Some(Times {
+                library: library.parse().ok()?,
+                rust: rust.parse().ok()?,
+            })
+        })
+        .collect();
+    if times.len() != works {
+        return Err("a run gave no times".to_string());
+    }
+    Ok(times)
+}
+
 /// Times everything in so many whole runs, and prints the table.
-pub fn bench(runs: usize) {
+pub fn bench(runs: usize) -> Result<(), String> {
     let works = works();
     works.iter().for_each(Work::check);
     let mut times: Vec<Vec<Times>> = vec![Vec::new(); works.len()];
     for _ in 0..runs {
-        for (work, times) in works.iter().zip(&mut times) {
-            times.push(work.time());
+        for (times, one) in times.iter_mut().zip(run_apart(works.len())?) {
+            times.push(one);
         }
     }
 
@@ -370,4 +413,5 @@ pub fn bench(runs: usize) {
             least.rust / blocks as f64
         );
     }
+    Ok(())
 }

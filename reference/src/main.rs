@@ -55,6 +55,12 @@ fn main() -> ExitCode {
             Ok(runs) if runs > 0 => bench(runs),
             _ => usage(),
         },
+        #[cfg(feature = "board")]
+        [bench::ONE_RUN] => {
+            shift::keep();
+            bench::one_run();
+            ExitCode::SUCCESS
+        }
         ["catalogue"] => catalogue(),
         _ => usage(),
     }
@@ -96,9 +102,13 @@ fn differ(calls: u64, seed: u64) -> ExitCode {
 
 #[cfg(feature = "board")]
 fn bench(runs: usize) -> ExitCode {
-    shift::keep();
-    bench::bench(runs);
-    ExitCode::SUCCESS
+    match bench::bench(runs) {
+        Ok(()) => ExitCode::SUCCESS,
+        Err(error) => {
+            eprintln!("{error}");
+            ExitCode::FAILURE
+        }
+    }
 }
 
 #[cfg(not(feature = "board"))]

@@ -29,7 +29,8 @@ use Rattle.calls.specs.declared.answer.Read.{Read as ReadNumbers}
 use Rattle.calls.specs.declared.answer.Refused.{Refused as RefusedNumbers}
 use Rattle.calls.specs.declared.answer.Answer.{Answer}
 use Rattle.calls.specs.declared.answer.Answer.the-variants.{Presence, Written, Control, Read, Refused}
-use Rattle.load.specs.Load.{holds, holder, chosenAt, found, loadChoice, chosenData, dataPart}
+use Rattle.view.specs.View.{dataPart}
+use Rattle.load.specs.Load.{holds, holder, chosenAt, found, loadChoice, chosenData}
 use Rattle.load.specs.declared.LoadChoice.{LoadChoice}
 use Rattle.load.specs.declared.LoadChoice.the-variants as choice
 use Rattle.board.specs.Words.{bit, answerWords, loadWords}

@@ -8,7 +8,8 @@ use mathlib.Core.List.{List}
 use Rattle.update.specs.Fields.{revision}
 use Rattle.update.specs.Covers.{covers}
 use Rattle.outcome.specs.Processors.{Listed}
-use Rattle.load.specs.Load.{loadChoice, dataPart, chosenData}
+use Rattle.view.specs.View.{dataPart}
+use Rattle.load.specs.Load.{loadChoice, chosenData}
 use Rattle.load.specs.declared.LoadChoice.the-variants.{Chosen}
 
 abbrev pub SameLoad : List ℕ → List ℕ → ℕ → ℕ → Type 0

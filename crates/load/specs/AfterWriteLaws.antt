@@ -45,7 +45,8 @@ use Rattle.write.specs.Write.{goes, bytesAfter, writeAnswer, writeBytes}
 use Rattle.write.specs.Planned.{good-blocks, Planned, plan-written}
 use Rattle.write.specs.Chosen.{planned-best}
 use Rattle.write.specs.Answered.{answer-plan}
-use Rattle.load.specs.Load.{holds, chosenAt, found, loadChoice, dataPart, chosenData}
+use Rattle.view.specs.View.{dataPart}
+use Rattle.load.specs.Load.{holds, chosenAt, found, loadChoice, chosenData}
 use Rattle.load.specs.LoadLaws.{holder-one, holder-none}
 use Rattle.load.specs.AfterWrite.{SameLoad, LoadsAfter}
 use Rattle.load.specs.declared.LoadChoice.the-variants.{Nothing, Chosen}

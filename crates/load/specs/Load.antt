@@ -4,17 +4,16 @@
 --   holder        the first block of the update that covers it, N where there is none
 --   found         the choice in a valid store, with loading on
 --   loadChoice    the whole order
---   dataPart      the data bytes of the update at the start of a part
 --   chosenData    the data bytes of a choice: none but where an update is chosen
 use Prim.Native.Nat.{ℕ}
 use mathlib.Core.Bool.{Bool, _&&_}
 use mathlib.Core.List.{List, []}
-use lib.ListN.{take, drop}
 use lib.Dec.{leb, ltb}
 use Rattle.laws.specs.First.{firstBelow}
 use Rattle.laws.specs.Unless.{unless}
-use Rattle.update.specs.Fields.{revision, dataSize}
+use Rattle.update.specs.Fields.{revision}
 use Rattle.update.specs.Covers.{covers}
+use Rattle.view.specs.View.{dataPart}
 use Rattle.store.specs.Blocks.{fromBlock, blockCount}
 use Rattle.store.specs.Scan.{first, storeOk}
 use Rattle.load.specs.declared.LoadChoice.{LoadChoice}
@@ -39,9 +38,6 @@ loadChoice loading s x p =
     (unless (leb p 7) (Refused 0x92 2)
     (unless loading Nothing
     (found s x p)))
-
-unfoldable pub dataPart : List ℕ → List ℕ
-dataPart u = take (dataSize u) (drop 48 u)
 
 unfoldable pub chosenData : List ℕ → LoadChoice → List ℕ
 chosenData s (Refused ah al) = []

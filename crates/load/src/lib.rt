@@ -1,16 +1,14 @@
 // The load choice at start-up: which stored update a processor gets, and its data as a part of the lent store.
 ghost use mathlib.Core.Path.{_≡_};
 ghost use mathlib.Core.Bool.{true};
-ghost use lib.ListN.{take, drop};
-ghost use Rattle.update.specs.Fields.{dataSize};
 ghost use Rattle.store.specs.Scan.{directory};
-ghost use Rattle.load.specs.Load.{dataPart, found, loadChoice, chosenData};
+ghost use Rattle.load.specs.Load.{found, loadChoice, chosenData};
 use store::blocks;
 use store::directory;
 use store::directory::Directory;
 use update::covers;
 use update::fields;
-use update::sizes;
+use view::parts;
 
 pub enum LoadChoice {
     // the codes
@@ -61,29 +59,15 @@ pub fn choose(loading: bool, store: &[u8], signature: u32, platform: u32) -> Loa
     }
 }
 
-// The data bytes of the update at the start of a part.
-fn data_part(u: &[u8]) -> &[u8]
-    ensures { λ r. ⌜ now r ≡ dataPart (now (u .entry)) ⌝ }
-{
-    let n = sizes::data_size(u) as usize;
-    if u.len() < 48 {
-        return &u[..0];
-    }
-    let rest = u.len() - 48;
-    if n <= rest {
-        let end = 48 + n;
-        &u[48..end]
-    } else {
-        &u[48..]
-    }
-}
-
 // The chosen data bytes, a part of the lent store; none where nothing is chosen.
 pub fn data_of(store: &[u8], choice: LoadChoice) -> &[u8]
     ensures { λ r. ⌜ now r ≡ chosenData (now (store .entry)) choice ⌝ }
 {
     match choice {
-        LoadChoice::Chosen { start, revision: _ } => data_part(blocks::from_block(store, start)),
+        LoadChoice::Chosen { start, revision: _ } => parts::data_part(blocks::from_block(
+            store,
+            start,
+        )),
         LoadChoice::Nothing => &store[..0],
         LoadChoice::Refused { ah: _, al: _ } => &store[..0],
     }

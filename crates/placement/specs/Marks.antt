@@ -1,5 +1,7 @@
 -- What the program's `Marked` and `Choice` stand for.
 --   held        the updates of a `Marked`
+--   markAt, bothAt    a mark of an array; both marks of two arrays
+--   torn-both, shared-marks    so they stand for the marks of the updates
 --   choiceOf    a pick as a `Choice`
 --   pickOf      a `Choice` as a pick
 --   choice-pick, pick-choice    one behind the other changes nothing
@@ -7,19 +9,23 @@
 --   picking     the loop over the starts, as `search` takes it
 use Prim.Native.Nat.{ℕ, zero, suc, _+_, _-_, _<_, _≤_}
 use mathlib.Core.Path.{_≡_, refl, sym, ap, _∙_}
-use mathlib.Core.Bool.{Bool, true, false, cond, true≢false}
+use mathlib.Core.Bool.{Bool, true, false, cond, _&&_, true≢false}
 use mathlib.Core.Logic.{⊎-elim}
 use native.Mathlib.Nat.{eq-or-lt-of-le}
 use native.Mathlib.Numerals.{add-one}
 use native.Mathlib.Omega.{arith}
+use mathlib.Core.List.{List}
 use lib.ListN.{getD}
 use lib.Dec.{eqb}
 use borrow.Author.Tests.{eqb-true, le-ltb}
+use Rattle.laws.specs.Below.{anyBelow}
+use Rattle.laws.specs.Count.{countBelow}
 use Rattle.laws.specs.Least.{Pick, nowhere, at, better, least}
 use Rattle.placement.specs.declared.Marked.{Marked}
 use Rattle.placement.specs.declared.Choice.{Choice}
 use Rattle.placement.specs.declared.Choice.the-variants.{At, Nowhere}
 use Rattle.placement.specs.Held.{Held}
+use Rattle.placement.specs.Choose.{torn}
 
 -- entry i of each array
 abbrev pub startAt : Marked → ℕ → ℕ
@@ -36,6 +42,20 @@ keepsAt m i = getD (m .keeps) i false
 
 unfoldable pub held : Marked → Held
 held m = record { count = m .count; start = startAt m; size = sizeAt m; shares = sharesAt m; keeps = keepsAt m }
+
+unfoldable pub markAt : List Bool → ℕ → Bool
+markAt xs i = getD xs i false
+
+unfoldable pub bothAt : List Bool → List Bool → ℕ → Bool
+bothAt xs ys i = markAt xs i && markAt ys i
+
+pub torn-both : (m : Marked) (t : Bool) → t ≡ anyBelow (m .count) (bothAt (m .shares) (m .keeps)) → t ≡ anyBelow (held m .count) (torn (held m))
+unfolding held torn bothAt markAt
+torn-both m t e = e
+
+pub shared-marks : (m : Marked) (v : ℕ) → v ≡ countBelow (m .count) (markAt (m .shares)) → v ≡ countBelow (m .count) (held m .shares)
+unfolding held markAt
+shared-marks m v e = e
 
 abbrev pub choiceOf : Pick → Choice
 choiceOf nowhere = Nowhere

@@ -7,8 +7,8 @@ ghost use Rattle.laws.specs.Below.{anyBelow};
 ghost use Rattle.laws.specs.Count.{countBelow};
 ghost use Rattle.laws.specs.Least.{better};
 ghost use Rattle.laws.specs.Arrays.{Filled};
-ghost use Rattle.placement.specs.Choose.{fills, barred, lost, torn, choose};
-ghost use Rattle.placement.specs.Marks.{held, choiceOf, pickOf, untouched};
+ghost use Rattle.placement.specs.Choose.{fills, barred, lost, choose};
+ghost use Rattle.placement.specs.Marks.{held, markAt, bothAt, choiceOf, pickOf, untouched};
 ghost use Rattle.placement.specs.Tries.{limitOf, capped};
 
 // The stored updates in the order of their starts: update i < count starts at a block, has a size in blocks, and two marks against the
@@ -169,13 +169,13 @@ fn both(a: bool, b: bool) -> bool
 }
 
 // Has some update both marks? Then it rules every start out.
-pub fn torn(m: Marked) -> bool
-    requires { ⌜ m .count ≤ 32 ⌝ }
-    ensures { λ r. ⌜ r ≡ anyBelow (m .count) (torn (held m)) ⌝ }
+pub fn torn(shares: [bool; 32], keeps: [bool; 32], count: usize) -> bool
+    requires { ⌜ count ≤ 32 ⌝ }
+    ensures { λ r. ⌜ r ≡ anyBelow count (bothAt shares keeps) ⌝ }
 {
     let mut i: usize = 0;
-    while i < m.count {
-        if both(m.shares[i], m.keeps[i]) {
+    while i < count {
+        if both(shares[i], keeps[i]) {
             return true;
         }
         i += 1;
@@ -184,16 +184,16 @@ pub fn torn(m: Marked) -> bool
 }
 
 // How many updates share?
-pub fn shared(m: Marked) -> u32
-    requires { ⌜ m .count ≤ 32 ⌝ }
-    ensures { λ r. ⌜ r ≡ countBelow (m .count) (held m .shares) ⌝ }
+pub fn shared(shares: [bool; 32], count: usize) -> u32
+    requires { ⌜ count ≤ 32 ⌝ }
+    ensures { λ r. ⌜ r ≡ countBelow count (markAt shares) ⌝ }
 {
     let mut sharing: u32 = 0;
     let mut i: usize = 0;
-    while i < m.count {
+    while i < count {
         let at = i;
         i += 1;
-        if m.shares[at] {
+        if shares[at] {
             sharing += 1;
         }
     }

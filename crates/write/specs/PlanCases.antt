@@ -22,7 +22,7 @@ use Rattle.store.specs.ValidLaws.{store-valid}
 use Rattle.store.specs.declared.directory.Directory.{Directory}
 use Rattle.placement.specs.Held.{Held}
 use Rattle.placement.specs.Choose.{torn, choose}
-use Rattle.placement.specs.Marks.{held}
+use Rattle.placement.specs.Marks.{held, bothAt, torn-both}
 use Rattle.placement.specs.declared.Marked.{Marked}
 use Rattle.outcome.specs.Processors.{listOk, coversOne}
 use Rattle.calls.specs.Answers.{refusal}
@@ -47,10 +47,9 @@ module _ (old cand : List ℕ) (m : Marked) (k : ℕ) (z : Answer) (o : Bool) (f
   unfolding unless
   marked-outdated h q = rw (← f, h) q
 
-  module _ (newer : o ≡ false) (t : Bool) (g : t ≡ anyBelow (m .count) (torn (held m))) where
+  module _ (newer : o ≡ false) (t : Bool) (g : t ≡ anyBelow (m .count) (bothAt (m .shares) (m .keeps))) where
     torn-is : t ≡ anyBelow (held m .count) (torn (held m))
-    unfolding held
-    torn-is = g
+    torn-is = torn-both m t g
 
     pub marked-torn : t ≡ true → z ≡ refusal 0x93 4 → z ≡ markedAnswer old cand (held m) k
     unfolding unless

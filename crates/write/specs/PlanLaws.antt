@@ -21,7 +21,7 @@ use Rattle.store.specs.ValidLaws.{store-valid}
 use Rattle.store.specs.declared.directory.Directory.{Directory}
 use Rattle.placement.specs.Held.{Held}
 use Rattle.placement.specs.Choose.{barred, loses, lost, torn, choose}
-use Rattle.placement.specs.Marks.{held, choiceOf}
+use Rattle.placement.specs.Marks.{held, markAt, shared-marks, choiceOf}
 use Rattle.placement.specs.declared.Marked.{Marked}
 use Rattle.placement.specs.declared.Choice.{Choice}
 use Rattle.placement.specs.declared.Choice.the-variants.{At, Nowhere}
@@ -57,7 +57,10 @@ module _ (m : Marked) (n k : ℕ) (r : Choice) (e : r ≡ choiceOf (choose n k (
   unfolding placed
   place-none z h q = q ∙ rw (choice-nowhere (choose n k (held m)) (sym e ∙ h))
 
-  module _ (s c v : ℕ) (h : r ≡ At s c) (g : v ≡ countBelow (m .count) (held m .shares)) where
+  module _ (s c v : ℕ) (h : r ≡ At s c) (f : v ≡ countBelow (m .count) (markAt (m .shares))) where
+    g : v ≡ countBelow (m .count) (held m .shares)
+    g = shared-marks m v f
+
     pub place-some : written s (v + c) ≡ placed (held m) (choose n k (held m))
     unfolding placed held
     place-some = rw (choice-at (choose n k (held m)) s c (sym e ∙ h), g)
@@ -65,6 +68,6 @@ module _ (m : Marked) (n k : ℕ) (r : Choice) (e : r ≡ choiceOf (choose n k (
     pub place-few : m .count ≤ 32 → v + c ≤ 64
     unfolding held
     place-few l =
-        omega (arith, count-most (held m .shares) (m .count), choose-most (held m) n k s c (choice-at (choose n k (held m)) s c (sym e ∙ h)))
+        omega (arith, g, count-most (held m .shares) (m .count), choose-most (held m) n k s c (choice-at (choose n k (held m)) s c (sym e ∙ h)))
 
 pub ruleset placing = (place-none, place-some)

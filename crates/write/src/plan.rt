@@ -18,12 +18,13 @@ fn place(m: Marked, n: u32, k: u32) -> Answer
     requires { ⌜ (m .count ≤ 32) × (n ≤ 32) ⌝ }
     ensures { λ r. ⌜ r ≡ placed (held m) (choose n k (held m)) ⌝ }
 {
+    let shares = m.shares;
     let choice = placement::choose_run(m, n, k);
     match choice {
         Choice::Nowhere => answer::refuse(0x93, 5),
         Choice::At { start, touched } => Answer::Written(Written {
             start,
-            emptied: placement::shared(m) + touched,
+            emptied: placement::shared(shares, m.count) + touched,
         }),
     }
 }
@@ -36,7 +37,9 @@ pub fn plan_marked(store: &[u8], m: Marked, candidate: &[u8], k: u32) -> Answer
     if marks::outdated(store, m, candidate) {
         return answer::refuse(0x98, 0);
     }
-    if placement::torn(m) {
+    let shares = m.shares;
+    let keeps = m.keeps;
+    if placement::torn(shares, keeps, m.count) {
         return answer::refuse(0x93, 4);
     }
     let n = (store.len() / 2048) as u32;

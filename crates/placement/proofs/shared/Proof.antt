@@ -3,18 +3,18 @@ use borrow.Author.Needs.{needs}
 use mathlib.Core.Path.{_≡_}
 use Prim.Native.Nat.{_≤_, _-_}
 use Rattle.laws.specs.Count.{countBelow, counting}
-use Rattle.placement.specs.Marks.{held}
+use Rattle.placement.specs.Marks.{markAt}
 use Rattle.placement.proofs.shared.Statement.{statement}
 use Rattle.placement.proofs.shared.Tie as tie
 
 abbrev Inv-loop : tie.InvT-loop
-Inv-loop m sharing₀ i₀ sharing i = (i ≤ m .count) × (sharing ≤ i) × (sharing ≡ countBelow i (held m .shares))
+Inv-loop count shares sharing₀ i₀ sharing i = (i ≤ count) × (sharing ≤ i) × (sharing ≡ countBelow i (markAt shares))
 
 abbrev μ-loop : tie.MeasureT-loop
-μ-loop m sharing₀ i₀ sharing i = m .count - i
+μ-loop count shares sharing₀ i₀ sharing i = count - i
 
 pub shared-spec : {M : Type 1} → statement M
-unfolding held
+unfolding markAt
 shared-spec =
     tie.close
     (tie.spec

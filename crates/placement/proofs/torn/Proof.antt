@@ -5,19 +5,18 @@ use mathlib.Core.Bool.{false}
 use Prim.Native.Nat.{_≤_, _-_}
 use Rattle.laws.specs.Below.{anyBelow}
 use Rattle.laws.specs.Loops.{scan}
-use Rattle.placement.specs.Choose.{torn}
-use Rattle.placement.specs.Marks.{held}
+use Rattle.placement.specs.Marks.{markAt, bothAt}
 use Rattle.placement.proofs.torn.Statement.{statement}
 use Rattle.placement.proofs.torn.Tie as tie
 
 abbrev Inv-loop : tie.InvT-loop
-Inv-loop m i₀ i = (i ≤ m .count) × (anyBelow i (torn (held m)) ≡ false)
+Inv-loop count shares keeps i₀ i = (i ≤ count) × (anyBelow i (bothAt shares keeps) ≡ false)
 
 abbrev μ-loop : tie.MeasureT-loop
-μ-loop m i₀ i = m .count - i
+μ-loop count shares keeps i₀ i = count - i
 
 pub torn-spec : {M : Type 1} → statement M
-unfolding torn held
+unfolding bothAt markAt
 torn-spec =
     tie.close
     (tie.spec

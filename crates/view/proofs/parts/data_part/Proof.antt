@@ -1,8 +1,8 @@
--- `load::data_part` meets its contract: the bytes behind the header, as many as there are.
+-- `view::parts::data_part` meets its contract: the bytes behind the header, as many as there are.
 use borrow.Author.Needs.{needs}
-use Rattle.load.specs.DataLaws.{parting}
-use Rattle.load.proofs.data_part.Statement.{statement}
-use Rattle.load.proofs.data_part.Tie as tie
+use Rattle.view.specs.ViewLaws.{parting}
+use Rattle.view.proofs.parts.data_part.Statement.{statement}
+use Rattle.view.proofs.parts.data_part.Tie as tie
 
 pub data-part-spec : {M : Type 1} → statement M
 data-part-spec =
