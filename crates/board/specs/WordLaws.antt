@@ -2,6 +2,7 @@
 --   chosen         a valid update begins at a chosen start
 --   load-inside    the chosen update begins below block 32
 --   load-part      the offset and the number of the words name a part of the store, and it is the chosen data
+--   rowOf          the words of all cases but presence
 --   wording, load-wording    the words of each case, as `search` takes them
 use Prim.Native.Nat.{ℕ, _+_, _*_, _<_, _≤_}
 use mathlib.Core.Path.{_≡_, refl, sym, ap, _∙_}
@@ -80,49 +81,53 @@ load-part loading s x p b r e =
     let l = length-drop (b * 2048) s in
     (omega (arith, v .long, y .below), rw (← e) (ap (take (dataSize (fromBlock s b))) (sym (drop-drop 48 (b * 2048) s))))
 
--- the words of each case; `on` is the word of the loading state
+-- the common words, four numbers of the case, and 0 behind them; `on` is the word of the loading state
+unfoldable pub rowOf : ℕ → ℕ → ℕ → ℕ → ℕ → ℕ → ℕ → ℕ → List ℕ
+rowOf ah al on case n0 n1 n2 n3 =
+    ah ∷ al ∷ bit (not (eqb ah 0)) ∷ on ∷ case ∷ n0 ∷ n1 ∷ n2 ∷ n3 ∷ 0 ∷ 0 ∷ 0 ∷ 0 ∷ 0 ∷ 0 ∷ 0 ∷ []
+
+-- the words r of each case
 module _ (a : Answer) (loading : Bool) (on : ℕ) (e : on ≡ bit loading) where
   pub presence-words : (p : PresenceNumbers) → a ≡ Presence p
       → (0 ∷ 0 ∷ 0 ∷ on ∷ 0 ∷ p .byte0 ∷ p .byte1 ∷ p .byte2 ∷ p .byte3 ∷ p .byte4 ∷ p .byte5 ∷ p .byte6 ∷ p .byte7 ∷ p .«loader_version» ∷ p .blocks ∷ 0 ∷ []) ≡ answerWords a loading
   unfolding answerWords
   presence-words p h = rw (h, e)
 
-  pub written-words : (w : WrittenNumbers) → a ≡ Written w → (0 ∷ 0 ∷ 0 ∷ on ∷ 1 ∷ w .start ∷ w .emptied ∷ 0 ∷ 0 ∷ 0 ∷ 0 ∷ 0 ∷ 0 ∷ 0 ∷ 0 ∷ 0 ∷ []) ≡ answerWords a loading
-  unfolding answerWords
-  written-words w h = rw (h, e)
+  module _ (r : List ℕ) where
+    pub written-words : (w : WrittenNumbers) → a ≡ Written w → r ≡ rowOf 0 0 on 1 (w .start) (w .emptied) 0 0 → r ≡ answerWords a loading
+    unfolding answerWords rowOf
+    written-words w h k = k ∙ rw (h, e)
 
-  pub control-words : (k : ControlNumbers) → a ≡ Control k → (0 ∷ 0 ∷ 0 ∷ on ∷ 2 ∷ k .status ∷ 0 ∷ 0 ∷ 0 ∷ 0 ∷ 0 ∷ 0 ∷ 0 ∷ 0 ∷ 0 ∷ 0 ∷ []) ≡ answerWords a loading
-  unfolding answerWords
-  control-words k h = rw (h, e)
+    pub control-words : (n : ControlNumbers) → a ≡ Control n → r ≡ rowOf 0 0 on 2 (n .status) 0 0 0 → r ≡ answerWords a loading
+    unfolding answerWords rowOf
+    control-words n h k = k ∙ rw (h, e)
 
-  pub read-words : (d : ReadNumbers) → a ≡ Read d → (0 ∷ 0 ∷ 0 ∷ on ∷ 3 ∷ d .blocks ∷ 0 ∷ 0 ∷ 0 ∷ 0 ∷ 0 ∷ 0 ∷ 0 ∷ 0 ∷ 0 ∷ 0 ∷ []) ≡ answerWords a loading
-  unfolding answerWords
-  read-words d h = rw (h, e)
+    pub read-words : (d : ReadNumbers) → a ≡ Read d → r ≡ rowOf 0 0 on 3 (d .blocks) 0 0 0 → r ≡ answerWords a loading
+    unfolding answerWords rowOf
+    read-words d h k = k ∙ rw (h, e)
 
-  pub refused-words : (f : RefusedNumbers) (c : ℕ) → a ≡ Refused f → c ≡ bit (not (eqb (f .ah) 0))
-      → (f .ah ∷ f .al ∷ c ∷ on ∷ 4 ∷ f .status ∷ 0 ∷ 0 ∷ 0 ∷ 0 ∷ 0 ∷ 0 ∷ 0 ∷ 0 ∷ 0 ∷ 0 ∷ []) ≡ answerWords a loading
-  unfolding answerWords
-  refused-words f c h k = rw (h, e, k)
+    pub refused-words : (f : RefusedNumbers) → a ≡ Refused f → r ≡ rowOf (f .ah) (f .al) on 4 (f .status) 0 0 0 → r ≡ answerWords a loading
+    unfolding answerWords rowOf
+    refused-words f h k = k ∙ rw (h, e)
 
 pub ruleset wording = (presence-words, written-words, control-words, read-words, refused-words)
 
--- the words of each load choice
-module _ (c : LoadChoice) (loading : Bool) (s : List ℕ) (on : ℕ) (e : on ≡ bit loading) where
-  pub load-refused-words : (ah al k : ℕ) → c ≡ choice.Refused ah al → k ≡ bit (not (eqb ah 0)) → (ah ∷ al ∷ k ∷ on ∷ 2 ∷ 0 ∷ 0 ∷ 0 ∷ 0 ∷ 0 ∷ 0 ∷ 0 ∷ 0 ∷ 0 ∷ 0 ∷ 0 ∷ []) ≡ loadWords loading s c
-  unfolding loadWords
-  load-refused-words ah al k h q = rw (h, e, q)
+-- the words r of each load choice
+module _ (c : LoadChoice) (loading : Bool) (s : List ℕ) (on : ℕ) (e : on ≡ bit loading) (r : List ℕ) where
+  pub load-refused-words : (ah al : ℕ) → c ≡ choice.Refused ah al → r ≡ rowOf ah al on 2 0 0 0 0 → r ≡ loadWords loading s c
+  unfolding loadWords rowOf
+  load-refused-words ah al h k = k ∙ rw (h, e)
 
-  pub load-nothing-words : c ≡ choice.Nothing → (0 ∷ 0 ∷ 0 ∷ on ∷ 0 ∷ 0 ∷ 0 ∷ 0 ∷ 0 ∷ 0 ∷ 0 ∷ 0 ∷ 0 ∷ 0 ∷ 0 ∷ 0 ∷ []) ≡ loadWords loading s c
-  unfolding loadWords
-  load-nothing-words h = rw (h, e)
+  pub load-nothing-words : c ≡ choice.Nothing → r ≡ rowOf 0 0 on 0 0 0 0 0 → r ≡ loadWords loading s c
+  unfolding loadWords rowOf
+  load-nothing-words h k = k ∙ rw (h, e)
 
-  pub load-chosen-words : (b r d : ℕ) (u : List ℕ) → c ≡ choice.Chosen b r → u ≡ fromBlock s b → d ≡ dataSize u
-      → (0 ∷ 0 ∷ 0 ∷ on ∷ 1 ∷ b ∷ r ∷ (b * 2048 + 48) ∷ d ∷ 0 ∷ 0 ∷ 0 ∷ 0 ∷ 0 ∷ 0 ∷ 0 ∷ []) ≡ loadWords loading s c
-  unfolding loadWords
-  load-chosen-words b r d u h k q = rw (h, e, q, k)
+  pub load-chosen-words : (b v d : ℕ) (u : List ℕ) → c ≡ choice.Chosen b v → u ≡ fromBlock s b → d ≡ dataSize u → r ≡ rowOf 0 0 on 1 b v (b * 2048 + 48) d → r ≡ loadWords loading s c
+  unfolding loadWords rowOf
+  load-chosen-words b v d u h f q k = k ∙ rw (h, e, q, f)
 
-  pub load-small : (b r : ℕ) → Inside c → c ≡ choice.Chosen b r → b < 32
-  unfolding Inside
-  load-small b r i h = i b r h
+pub load-small : (c : LoadChoice) (b r : ℕ) → Inside c → c ≡ choice.Chosen b r → b < 32
+unfolding Inside
+load-small c b r i h = i b r h
 
 pub ruleset load-wording = (load-refused-words, load-nothing-words, load-chosen-words)

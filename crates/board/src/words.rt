@@ -3,7 +3,7 @@ ghost use mathlib.Core.Path.{_≡_};
 ghost use mathlib.Core.Bool.{not};
 ghost use lib.Dec.{eqb};
 ghost use Rattle.board.specs.Words.{bit, axOf, answerWords, loadAx, loadWords};
-ghost use Rattle.board.specs.WordLaws.{Inside};
+ghost use Rattle.board.specs.WordLaws.{rowOf, Inside};
 use calls::answer::Answer;
 use load::LoadChoice;
 use store::blocks;
@@ -21,6 +21,26 @@ fn carry(ah: u8) -> u32
     ensures { λ r. ⌜ r ≡ bit (not (eqb ah 0)) ⌝ }
 {
     if ah == 0 { 0 } else { 1 }
+}
+
+// Writes the common words and four numbers of the case; the words behind them are 0.
+fn put(
+    answer: &mut [u32; 16],
+    ah: u8,
+    al: u8,
+    on: u32,
+    case: u32,
+    n0: u32,
+    n1: u32,
+    n2: u32,
+    n3: u32,
+)
+    ensures { λ _. ⌜ now (answer .exit) ≡ rowOf ah al on case n0 n1 n2 n3 ⌝ }
+{
+    let h = ah as u32;
+    let l = al as u32;
+    let c = carry(ah);
+    *answer = [h, l, c, on, case, n0, n1, n2, n3, 0, 0, 0, 0, 0, 0, 0];
 }
 
 // The image of AX.
@@ -62,69 +82,10 @@ pub fn call_words(a: Answer, loading: bool, answer: &mut [u32; 16])
                 0,
             ];
         }
-        Answer::Written(w) => {
-            *answer = [
-                0,
-                0,
-                0,
-                on,
-                1,
-                w.start,
-                w.emptied,
-                0,
-                0,
-                0,
-                0,
-                0,
-                0,
-                0,
-                0,
-                0,
-            ];
-        }
-        Answer::Control(k) => {
-            *answer = [
-                0,
-                0,
-                0,
-                on,
-                2,
-                k.status as u32,
-                0,
-                0,
-                0,
-                0,
-                0,
-                0,
-                0,
-                0,
-                0,
-                0,
-            ];
-        }
-        Answer::Read(d) => {
-            *answer = [0, 0, 0, on, 3, d.blocks, 0, 0, 0, 0, 0, 0, 0, 0, 0, 0];
-        }
-        Answer::Refused(f) => {
-            *answer = [
-                f.ah as u32,
-                f.al as u32,
-                carry(f.ah),
-                on,
-                4,
-                f.status as u32,
-                0,
-                0,
-                0,
-                0,
-                0,
-                0,
-                0,
-                0,
-                0,
-                0,
-            ];
-        }
+        Answer::Written(w) => put(answer, 0, 0, on, 1, w.start, w.emptied, 0, 0),
+        Answer::Control(k) => put(answer, 0, 0, on, 2, k.status as u32, 0, 0, 0),
+        Answer::Read(d) => put(answer, 0, 0, on, 3, d.blocks, 0, 0, 0),
+        Answer::Refused(f) => put(answer, f.ah, f.al, on, 4, f.status as u32, 0, 0, 0),
     }
 }
 
@@ -149,48 +110,12 @@ pub fn load_words(c: LoadChoice, loading: bool, store: &[u8], answer: &mut [u32;
 {
     let on = bit(loading);
     match c {
-        LoadChoice::Refused { ah, al } => {
-            *answer = [
-                ah as u32,
-                al as u32,
-                carry(ah),
-                on,
-                2,
-                0,
-                0,
-                0,
-                0,
-                0,
-                0,
-                0,
-                0,
-                0,
-                0,
-                0,
-            ];
-        }
-        LoadChoice::Nothing => {
-            *answer = [0, 0, 0, on, 0, 0, 0, 0, 0, 0, 0, 0, 0, 0, 0, 0];
-        }
+        LoadChoice::Refused { ah, al } => put(answer, ah, al, on, 2, 0, 0, 0, 0),
+        LoadChoice::Nothing => put(answer, 0, 0, on, 0, 0, 0, 0, 0),
         LoadChoice::Chosen { start, revision } => {
-            *answer = [
-                0,
-                0,
-                0,
-                on,
-                1,
-                start,
-                revision,
-                start * 2048 + 48,
-                sizes::data_size(blocks::from_block(store, start)),
-                0,
-                0,
-                0,
-                0,
-                0,
-                0,
-                0,
-            ];
+            let offset = start * 2048 + 48;
+            let count = sizes::data_size(blocks::from_block(store, start));
+            put(answer, 0, 0, on, 1, start, revision, offset, count)
         }
     }
 }

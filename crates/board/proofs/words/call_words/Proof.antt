@@ -27,6 +27,7 @@ call-words-spec =
     (search needs)
     (search needs)
     (search needs)
+    (search needs)
     (λ c. search wording)
     (λ c. search wording)
     (λ c. search wording)

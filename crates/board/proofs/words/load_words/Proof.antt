@@ -6,11 +6,11 @@ use Rattle.board.specs.WordLaws.{load-wording, load-small}
 use Rattle.board.proofs.words.load_words.Statement.{statement}
 use Rattle.board.proofs.words.load_words.Tie as tie
 
-mul-t13 : tie.Need-mul-t13
-mul-t13 c = let k : c .before .c2 .given .0 .0 < 32 = search (load-small) in omega (arith, k)
+mul-offset : tie.Need-mul-offset
+mul-offset c = let k : c .before .c2 .given .0 .0 < 32 = search (load-small) in omega (arith, k)
 
-add-t14 : tie.Need-add-t14
-add-t14 c = let k : c .before .c2 .given .0 .0 < 32 = search (load-small) in omega (arith, k)
+add-offset : tie.Need-add-offset
+add-offset c = let k : c .before .c2 .given .0 .0 < 32 = search (load-small) in omega (arith, k)
 
 pub load-words-spec : {M : Type 1} → statement M
 load-words-spec =
@@ -22,9 +22,9 @@ load-words-spec =
     (search needs)
     (search needs)
     (search needs)
+    mul-offset
+    add-offset
     (search needs)
-    mul-t13
-    add-t14
     (search needs)
     (search needs)
     (λ c. search load-wording)
