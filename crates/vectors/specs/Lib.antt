@@ -1,0 +1,4 @@
+-- What the contracts and proofs of the program cite.
+pub mod Within
+pub mod Digest
+pub mod Decimal
