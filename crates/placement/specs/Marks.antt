@@ -1,5 +1,6 @@
 -- What the program's `Marked` and `Choice` stand for.
 --   held        the updates of a `Marked`
+--   marksOf     lent arrays as a `Marked`
 --   markAt, bothAt    a mark of an array; both marks of two arrays
 --   torn-both, shared-marks    so they stand for the marks of the updates
 --   choiceOf    a pick as a `Choice`
@@ -42,6 +43,10 @@ keepsAt m i = getD (m .keeps) i false
 
 unfoldable pub held : Marked → Held
 held m = record { count = m .count; start = startAt m; size = sizeAt m; shares = sharesAt m; keeps = keepsAt m }
+
+-- lent arrays as a `Marked`
+abbrev pub marksOf : List ℕ → List ℕ → List Bool → List Bool → ℕ → Marked
+marksOf starts sizes shares keeps count = record { starts = starts; sizes = sizes; shares = shares; keeps = keeps; count = count }
 
 unfoldable pub markAt : List Bool → ℕ → Bool
 markAt xs i = getD xs i false

@@ -1,12 +1,15 @@
 -- One more start against the choice so far. How many updates it loses matters only if they are fewer than the choice so far loses.
 --   limitOf      how many the choice so far loses; one more than a store can lose where there is none
+--   turn         the choice so far against one more start
 --   capped       a number, up to a limit
+--   lost-same    how many are lost doesn't depend on the second mark
 --   losing       the loop that counts up to a limit, as `search` takes it
 --   trying       the three ways of one more start, as `search` takes them
 use Prim.Native.Nat.{ℕ, _+_, _-_, _<_, _≤_}
 use mathlib.Core.Path.{_≡_, refl, sym, ap, _∙_}
 use mathlib.Core.Bool.{Bool, true, false, cond}
 use mathlib.Core.Logic.{⊎-elim}
+use mathlib.Core.List.{List, []}
 use native.Mathlib.Omega.{arith}
 use lib.Dec.{ltb}
 use borrow.Author.Tests.{lt-ltb, le-ltb}
@@ -17,12 +20,16 @@ use Rattle.placement.specs.declared.Marked.{Marked}
 use Rattle.placement.specs.declared.Choice.{Choice}
 use Rattle.placement.specs.declared.Choice.the-variants.{At, Nowhere}
 use Rattle.placement.specs.Held.{Held}
-use Rattle.placement.specs.Choose.{loses, barred, lost}
-use Rattle.placement.specs.Marks.{held, choiceOf, pickOf, choice-pick}
+use Rattle.placement.specs.Choose.{touches, loses, barred, lost}
+use Rattle.placement.specs.Marks.{held, marksOf, choiceOf, pickOf, choice-pick}
 
 abbrev pub limitOf : Choice → ℕ
 limitOf Nowhere = 33
 limitOf (At s c) = c
+
+-- the choice so far against one more start
+abbrev pub turn : Held → ℕ → ℕ → Choice → Choice
+turn h k s sofar = choiceOf (cond (barred h k s) (pickOf sofar) (better (pickOf sofar) s (lost h k s)))
 
 unfoldable pub capped : ℕ → ℕ → ℕ
 capped limit c = cond (ltb c limit) c limit
@@ -56,6 +63,10 @@ module _ (h : Held) (k s limit i c : ℕ) (e : c ≡ countBelow i (loses h k s))
 
 pub ruleset losing = (count-none, count-yes, count-no, lose-stop, lose-done)
 
+pub lost-same : (starts sizes : List ℕ) (shares keeps : List Bool) (count k s : ℕ) → lost (held (marksOf starts sizes shares [] count)) k s ≡ lost (held (marksOf starts sizes shares keeps count)) k s
+unfolding lost loses touches held
+lost-same starts sizes shares keeps count k s = refl
+
 -- l is the limit, c how many are lost, up to it, b whether some update rules the start out
 module _ (h : Held) (k s : ℕ) (sofar : Choice) (l c : ℕ) (e : l ≡ limitOf sofar) (f : c ≡ capped l (lost h k s)) where
   less-is : c < l → c ≡ lost h k s
@@ -77,13 +88,23 @@ module _ (h : Held) (k s : ℕ) (sofar : Choice) (l c : ℕ) (e : l ≡ limitOf 
       (λ (y : lost h k s < l). let z = capped-less l (lost h k s) y in absurd (omega arith))
       (le-or-lt l (lost h k s))
 
-  pub try-barred : (b : Bool) → b ≡ barred h k s → b ≡ true → sofar ≡ choiceOf (cond (barred h k s) (pickOf sofar) (better (pickOf sofar) s (lost h k s)))
+-- of the lent arrays
+module _ (starts sizes : List ℕ) (shares keeps : List Bool) (count k s : ℕ) (sofar : Choice) (l c : ℕ) (e : l ≡ limitOf sofar)
+    (f : c ≡ capped l (lost (held (marksOf starts sizes shares [] count)) k s)) where
+  abbrev h : Held
+  h = held (marksOf starts sizes shares keeps count)
+
+  right : c ≡ capped l (lost h k s)
+  right = f ∙ ap (capped l) (lost-same starts sizes shares keeps count k s)
+
+  pub try-barred : (b : Bool) → b ≡ barred h k s → b ≡ true → sofar ≡ turn h k s sofar
   try-barred b g t = rw (← g, t) (choice-pick sofar)
 
-  pub try-taken : (b : Bool) → b ≡ barred h k s → b ≡ false → c < l → At s c ≡ choiceOf (cond (barred h k s) (pickOf sofar) (better (pickOf sofar) s (lost h k s)))
-  try-taken b g t x = rw (← g, t) (taken sofar e x)
+  pub try-taken : (b : Bool) → b ≡ barred h k s → b ≡ false → c < l → At s c ≡ turn h k s sofar
+  try-taken b g t x = rw (← g, t) (taken h k s sofar l c e right sofar e x)
 
-  pub try-dear : l ≤ c → (n : ℕ) → n ≡ h .count → n ≤ 32 → sofar ≡ choiceOf (cond (barred h k s) (pickOf sofar) (better (pickOf sofar) s (lost h k s)))
-  try-dear x n q few = stays sofar e x (omega arith) (barred h k s)
+  pub try-dear : l ≤ c → count ≤ 32 → sofar ≡ turn h k s sofar
+  unfolding held
+  try-dear x few = stays h k s sofar l c e right sofar e x few (barred h k s)
 
 pub ruleset trying = (try-barred, try-taken, try-dear)

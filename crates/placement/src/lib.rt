@@ -1,15 +1,15 @@
 // The choice of a run of blocks for a new update. `k` is the number of blocks that it takes, `s` a start block.
 ghost use mathlib.Core.Path.{_≡_};
-ghost use mathlib.Core.Bool.{false, cond, not, _&&_, _||_};
+ghost use mathlib.Core.Bool.{false, not, _&&_, _||_};
+ghost use mathlib.Core.List.{[]};
 ghost use Prim.Native.Nat.{_+_, _≤_};
 ghost use lib.Dec.{ltb, leb};
 ghost use Rattle.laws.specs.Below.{anyBelow};
 ghost use Rattle.laws.specs.Count.{countBelow};
-ghost use Rattle.laws.specs.Least.{better};
 ghost use Rattle.laws.specs.Arrays.{Filled};
 ghost use Rattle.placement.specs.Choose.{fills, barred, lost, choose};
-ghost use Rattle.placement.specs.Marks.{held, markAt, bothAt, choiceOf, pickOf, untouched};
-ghost use Rattle.placement.specs.Tries.{limitOf, capped};
+ghost use Rattle.placement.specs.Marks.{held, marksOf, markAt, bothAt, choiceOf, untouched};
+ghost use Rattle.placement.specs.Tries.{limitOf, capped, turn};
 
 // The stored updates in the order of their starts: update i < count starts at a block, has a size in blocks, and two marks against the
 // candidate: it covers a processor that the candidate covers; it covers a listed processor that the candidate doesn't.
@@ -72,13 +72,21 @@ fn loses(start: u32, size: u32, shares: bool, k: u32, s: u32) -> bool
 }
 
 // Does some update rule the start out?
-fn barred(m: Marked, k: u32, s: u32) -> bool
-    requires { ⌜ m .count ≤ 32 ⌝ }
-    ensures { λ r. ⌜ r ≡ barred (held m) k s ⌝ }
+fn barred<'a>(
+    starts: &'a [u32; 32],
+    sizes: &'a [u32; 32],
+    shares: &'a [bool; 32],
+    keeps: &'a [bool; 32],
+    count: usize,
+    k: u32,
+    s: u32,
+) -> bool
+    requires { ⌜ count ≤ 32 ⌝ }
+    ensures { λ r. ⌜ r ≡ barred (held (marksOf (now (starts .entry)) (now (sizes .entry)) (now (shares .entry)) (now (keeps .entry)) count)) k s ⌝ }
 {
     let mut i: usize = 0;
-    while i < m.count {
-        if bars(m.starts[i], m.sizes[i], m.shares[i], m.keeps[i], k, s) {
+    while i < count {
+        if bars(starts[i], sizes[i], shares[i], keeps[i], k, s) {
             return true;
         }
         i += 1;
@@ -86,15 +94,23 @@ fn barred(m: Marked, k: u32, s: u32) -> bool
     false
 }
 
-// How many updates that do not share does the run touch, up to `limit`?
-fn lost(m: Marked, k: u32, s: u32, limit: u32) -> u32
-    requires { ⌜ m .count ≤ 32 ⌝ }
-    ensures { λ r. ⌜ r ≡ capped limit (lost (held m) k s) ⌝ }
+// How many updates that do not share does the run touch, up to `limit`? Whether they are needed doesn't matter here.
+fn lost<'a>(
+    starts: &'a [u32; 32],
+    sizes: &'a [u32; 32],
+    shares: &'a [bool; 32],
+    count: usize,
+    k: u32,
+    s: u32,
+    limit: u32,
+) -> u32
+    requires { ⌜ count ≤ 32 ⌝ }
+    ensures { λ r. ⌜ r ≡ capped limit (lost (held (marksOf (now (starts .entry)) (now (sizes .entry)) (now (shares .entry)) [] count)) k s) ⌝ }
 {
     let mut touched: u32 = 0;
     let mut i: usize = 0;
-    while i < m.count {
-        if loses(m.starts[i], m.sizes[i], m.shares[i], k, s) {
+    while i < count {
+        if loses(starts[i], sizes[i], shares[i], k, s) {
             if limit <= touched + 1 {
                 return limit;
             }
@@ -118,14 +134,23 @@ fn limit(sofar: Choice) -> u32
 }
 
 // The choice so far against a later start: taken only if it touches fewer, and is not ruled out.
-fn tried(m: Marked, k: u32, s: u32, sofar: Choice) -> Choice
-    requires { ⌜ m .count ≤ 32 ⌝ }
-    ensures { λ r. ⌜ r ≡ choiceOf (cond (barred (held m) k s) (pickOf sofar) (better (pickOf sofar) s (lost (held m) k s))) ⌝ }
+fn tried<'a>(
+    starts: &'a [u32; 32],
+    sizes: &'a [u32; 32],
+    shares: &'a [bool; 32],
+    keeps: &'a [bool; 32],
+    count: usize,
+    k: u32,
+    s: u32,
+    sofar: Choice,
+) -> Choice
+    requires { ⌜ count ≤ 32 ⌝ }
+    ensures { λ r. ⌜ r ≡ turn (held (marksOf (now (starts .entry)) (now (sizes .entry)) (now (shares .entry)) (now (keeps .entry)) count)) k s sofar ⌝ }
 {
     let most = limit(sofar);
-    let touched = lost(m, k, s, most);
+    let touched = lost(starts, sizes, shares, count, k, s, most);
     if touched < most {
-        if barred(m, k, s) {
+        if barred(starts, sizes, shares, keeps, count, k, s) {
             sofar
         } else {
             Choice::At { start: s, touched }
@@ -146,14 +171,22 @@ fn untouched(c: Choice) -> bool
 }
 
 // The start for a run of `k` of the `n` blocks: the one that loses the fewest updates, the lowest on a tie.
-pub fn choose_run(m: Marked, n: u32, k: u32) -> Choice
-    requires { ⌜ (m .count ≤ 32) × (n ≤ 32) ⌝ }
-    ensures { λ r. ⌜ r ≡ choiceOf (choose n k (held m)) ⌝ }
+pub fn choose_run<'a>(
+    starts: &'a [u32; 32],
+    sizes: &'a [u32; 32],
+    shares: &'a [bool; 32],
+    keeps: &'a [bool; 32],
+    count: usize,
+    n: u32,
+    k: u32,
+) -> Choice
+    requires { ⌜ (count ≤ 32) × (n ≤ 32) ⌝ }
+    ensures { λ r. ⌜ r ≡ choiceOf (choose n k (held (marksOf (now (starts .entry)) (now (sizes .entry)) (now (shares .entry)) (now (keeps .entry)) count))) ⌝ }
 {
     let mut sofar = Choice::Nowhere;
     let mut s: u32 = 0;
     while s as usize + k as usize <= n as usize {
-        sofar = tried(m, k, s, sofar);
+        sofar = tried(starts, sizes, shares, keeps, count, k, s, sofar);
         if untouched(sofar) {
             return sofar;
         }
@@ -169,9 +202,9 @@ fn both(a: bool, b: bool) -> bool
 }
 
 // Has some update both marks? Then it rules every start out.
-pub fn torn(shares: [bool; 32], keeps: [bool; 32], count: usize) -> bool
+pub fn torn<'a>(shares: &'a [bool; 32], keeps: &'a [bool; 32], count: usize) -> bool
     requires { ⌜ count ≤ 32 ⌝ }
-    ensures { λ r. ⌜ r ≡ anyBelow count (bothAt shares keeps) ⌝ }
+    ensures { λ r. ⌜ r ≡ anyBelow count (bothAt (now (shares .entry)) (now (keeps .entry))) ⌝ }
 {
     let mut i: usize = 0;
     while i < count {
@@ -184,9 +217,9 @@ pub fn torn(shares: [bool; 32], keeps: [bool; 32], count: usize) -> bool
 }
 
 // How many updates share?
-pub fn shared(shares: [bool; 32], count: usize) -> u32
+pub fn shared(shares: &[bool; 32], count: usize) -> u32
     requires { ⌜ count ≤ 32 ⌝ }
-    ensures { λ r. ⌜ r ≡ countBelow count (markAt shares) ⌝ }
+    ensures { λ r. ⌜ r ≡ countBelow count (markAt (now (shares .entry))) ⌝ }
 {
     let mut sharing: u32 = 0;
     let mut i: usize = 0;
@@ -224,14 +257,21 @@ fn fills(start: u32, size: u32, shares: bool, k: u32, s: u32) -> bool
 
 // Marks the updates that must be filled with FFh if the candidate goes to `s`: those that are emptied, but for those that the run overwrites
 // whole.
-pub fn to_fill(m: Marked, k: u32, s: u32) -> [bool; 32]
-    requires { ⌜ m .count ≤ 32 ⌝ }
-    ensures { λ r. ⌜ Filled false 32 (fills (held m) k s) (m .count) r ⌝ }
+pub fn to_fill<'a>(
+    starts: &'a [u32; 32],
+    sizes: &'a [u32; 32],
+    shares: &'a [bool; 32],
+    count: usize,
+    k: u32,
+    s: u32,
+) -> [bool; 32]
+    requires { ⌜ count ≤ 32 ⌝ }
+    ensures { λ r. ⌜ Filled false 32 (fills (held (marksOf (now (starts .entry)) (now (sizes .entry)) (now (shares .entry)) [] count)) k s) count r ⌝ }
 {
     let mut marks = [false; 32];
     let mut i: usize = 0;
-    while i < m.count {
-        marks[i] = fills(m.starts[i], m.sizes[i], m.shares[i], k, s);
+    while i < count {
+        marks[i] = fills(starts[i], sizes[i], shares[i], k, s);
         i += 1;
     }
     marks

@@ -30,15 +30,15 @@ use Rattle.outcome.specs.Processors.{coversListed, keeping}
 use Rattle.write.specs.Covered.{Covered, keepsBy, keeping-is}
 use Rattle.write.specs.Marks.{updateAt, sharesEntry, keepsEntry, heldIn, outdates, outdated}
 
-pub record Shared (old cand : List ℕ) (m : Marked) : Type 0 where
-  pub starts : m .starts ≡ directory old .starts
-  pub sizes : m .sizes ≡ directory old .sizes
-  pub count : m .count ≡ directory old .count
-  pub few : m .count ≤ 32
-  pub marks : Filled false 32 (sharesEntry old cand) (m .count) (m .shares)
+pub record Shared (old cand starts : List ℕ) (shares : List Bool) (count : ℕ) : Type 0 where
+  pub starts-are : starts ≡ directory old .starts
+  pub count-is : count ≡ directory old .count
+  pub few : count ≤ 32
+  pub marks : Filled false 32 (sharesEntry old cand) count shares
 
 pub record Marks (old signatures platforms cand : List ℕ) (m : Marked) : Type 0 where
-  pub shared : Shared old cand m
+  pub shared : Shared old cand (m .starts) (m .shares) (m .count)
+  pub sizes : m .sizes ≡ directory old .sizes
   pub keeps : Filled false 32 (keepsEntry old signatures platforms cand) (m .count) (m .keeps)
 
 -- a turn: d is the directory, u the part at the start of entry i
@@ -57,7 +57,8 @@ pub marks-made : (old signatures platforms cand : List ℕ) (d : Directory) (i :
     → Marks old signatures platforms cand (record { starts = d .starts; sizes = d .sizes; shares = xs; keeps = ys; count = d .count })
 marks-made old signatures platforms cand d i xs ys e few a b l m =
     record {
-      shared = record { starts = rw e; sizes = rw e; count = rw e; few = few; marks = filled-all false 32 (sharesEntry old cand) xs i (d .count) a l m };
+      sizes = rw e;
+      shared = record { starts-are = rw e; count-is = rw e; few = few; marks = filled-all false 32 (sharesEntry old cand) xs i (d .count) a l m };
       keeps = filled-all false 32 (keepsEntry old signatures platforms cand) ys i (d .count) b l m;
     }
 
@@ -66,22 +67,22 @@ pub outdates-yes : (old u : List ℕ) (start new v : ℕ) (t : Bool) → t ≡ t
 outdates-yes old u start new v t h e k = rw (h, k, e)
 
 -- the scan: r is what a call answered of mark and start of entry i
-module _ (old cand : List ℕ) (m : Marked) (i new : ℕ) (r : Bool) (right : Shared old cand m) (e : new ≡ revision cand) (l : i < m .count)
-    (h : r ≡ getD (m .shares) i false && leb new (revision (fromBlock old (getD (m .starts) i 0)))) where
+module _ (old cand starts : List ℕ) (shares : List Bool) (count i new : ℕ) (r : Bool) (right : Shared old cand starts shares count) (e : new ≡ revision cand) (l : i < count)
+    (h : r ≡ getD shares i false && leb new (revision (fromBlock old (getD starts i 0)))) where
   outdates-is : r ≡ outdates old cand i
   unfolding outdates
-  outdates-is = h ∙ rw (right .marks .each i l, e, right .starts)
+  outdates-is = h ∙ rw (right .marks .each i l, e, right .starts-are)
 
   pub outdate-more : anyBelow i (outdates old cand) ≡ false → r ≡ false → anyBelow (i + 1) (outdates old cand) ≡ false
   outdate-more k o = any-more (outdates old cand) i k (sym outdates-is ∙ o)
 
   pub outdate-stop : r ≡ true → true ≡ outdated old cand
   unfolding outdated
-  outdate-stop t = sym (any-stop (outdates old cand) (directory old .count) i (rw (right .count) at l) (sym outdates-is ∙ t))
+  outdate-stop t = sym (any-stop (outdates old cand) (directory old .count) i (rw (right .count-is) at l) (sym outdates-is ∙ t))
 
-pub outdate-done : (old cand : List ℕ) (m : Marked) (i : ℕ) → Shared old cand m → anyBelow i (outdates old cand) ≡ false → i ≤ m .count → m .count ≤ i → false ≡ outdated old cand
+pub outdate-done : (old cand starts : List ℕ) (shares : List Bool) (count i : ℕ) → Shared old cand starts shares count → anyBelow i (outdates old cand) ≡ false → i ≤ count → count ≤ i → false ≡ outdated old cand
 unfolding outdated
-outdate-done old cand m i right h p q = scan-done (outdates old cand) i (m .count) (directory old .count) (right .count) p q h
+outdate-done old cand starts shares count i right h p q = scan-done (outdates old cand) i count (directory old .count) (right .count-is) p q h
 
 pub ruleset outdating = (any-none, outdate-more, outdate-stop, outdate-done)
 
@@ -142,9 +143,9 @@ unfolding held heldIn
 held-same old signatures platforms cand m right =
     let s = right .shared in
     record {
-      count = s .count;
-      start = λ i l. rw (s .starts);
-      size = λ i l. rw (s .sizes);
+      count = s .count-is;
+      start = λ i l. rw (s .starts-are);
+      size = λ i l. rw (right .sizes);
       shares = λ i l. s .marks .each i l;
       keeps = λ i l. right .keeps .each i l;
     }

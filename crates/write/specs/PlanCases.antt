@@ -22,7 +22,7 @@ use Rattle.store.specs.ValidLaws.{store-valid}
 use Rattle.store.specs.declared.directory.Directory.{Directory}
 use Rattle.placement.specs.Held.{Held}
 use Rattle.placement.specs.Choose.{torn, choose}
-use Rattle.placement.specs.Marks.{held, bothAt, torn-both}
+use Rattle.placement.specs.Marks.{held, marksOf, bothAt, torn-both}
 use Rattle.placement.specs.declared.Marked.{Marked}
 use Rattle.outcome.specs.Processors.{listOk, coversOne}
 use Rattle.calls.specs.Answers.{refusal}
@@ -68,7 +68,8 @@ module _ (old signatures platforms cand : List ℕ) (k : ℕ) (marks : List Bool
   unfolding goodAnswer unless
   good-absent h q = rw (← one-is signatures platforms cand marks right r e, h) q
 
-  pub good-marked : r ≡ true → (m : Marked) → Marks old signatures platforms cand m → z ≡ markedAnswer old cand (held m) k → z ≡ goodAnswer old signatures platforms cand k
+  pub good-marked : r ≡ true → (m : Marked) → Marks old signatures platforms cand m → z ≡ markedAnswer old cand (held (marksOf (m .starts) (m .sizes) (m .shares) (m .keeps) (m .count))) k
+      → z ≡ goodAnswer old signatures platforms cand k
   unfolding goodAnswer unless
   good-marked h m y q =
       let a = held-same old signatures platforms cand m y in

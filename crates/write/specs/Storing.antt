@@ -11,7 +11,7 @@ use mathlib.Core.Bool.{Bool, true, false, _&&_, _||_, true≢false}
 use lib.Dec.{leb}
 use borrow.Author.Tests.{leb-true}
 use Rattle.laws.specs.Bools.{and-true, no-true}
-use mathlib.Core.List.{List}
+use mathlib.Core.List.{List, []}
 use native.Mathlib.Omega.{arith}
 use lib.ListN.{length, getD}
 use lib.Seq.{ext-getD}
@@ -27,7 +27,7 @@ use Rattle.store.specs.DirectoryLaws.{startOf, sizeOf, Listing, listing}
 use Rattle.store.specs.declared.directory.Directory.{Directory}
 use Rattle.placement.specs.Choose.{touches, within, fills}
 use Rattle.placement.specs.Choose as choice
-use Rattle.placement.specs.Marks.{held}
+use Rattle.placement.specs.Marks.{held, marksOf}
 use Rattle.placement.specs.declared.Marked.{Marked}
 use Rattle.outcome.specs.Bytes.{emptiedAt, inRun, clearedByte, outcomeByte, outcomeBytes, tabulate}
 use Rattle.outcome.specs.ByteLaws.{emptied-same, at-run, outcome-length, getD-tabulate}
@@ -42,7 +42,8 @@ use Rattle.write.specs.Planned.{Planned, plan-written}
 
 pub record Storing (old cand : List ℕ) (m : Marked) (start : ℕ) : Type 0 where
   pub ok : storeOk old ≡ true
-  pub shared : Shared old cand m
+  pub shared : Shared old cand (m .starts) (m .shares) (m .count)
+  pub sizes : m .sizes ≡ directory old .sizes
   pub whole : totalSize cand ≤ length cand
   pub ends : start + blocksOf (totalSize cand) ≤ blockCount old
 
@@ -55,11 +56,11 @@ unfolding Storable
 storing old cand m p w y h = y w h
 
 pub planned-storable : (old signatures platforms cand : List ℕ) (p : Answer) (m : Marked) (k : ℕ) → goodAnswer old signatures platforms cand k ≡ planAnswer old signatures platforms cand
-    → p ≡ goodAnswer old signatures platforms cand k → Marks old signatures platforms cand m → Storable old cand m p
+    → p ≡ goodAnswer old signatures platforms cand k → Marks old signatures platforms cand m → Storable old cand (marksOf (m .starts) (m .sizes) (m .shares) [] (m .count)) p
 unfolding Storable
 planned-storable old signatures platforms cand p m k e f y w h =
     let x = plan-written old signatures platforms cand w (sym e ∙ sym f ∙ h) in
-    record { ok = x .store; shared = y .shared; whole = x .whole; ends = x .ends }
+    record { ok = x .store; shared = y .shared; sizes = y .sizes; whole = x .whole; ends = x .ends }
 
 -- a set of first blocks matters only at the updates that own a block outside the run
 outcome-same : (old : List ℕ) (t : ℕ) (cand : List ℕ) (start : ℕ) (e f : ℕ → Bool)
@@ -85,25 +86,25 @@ module _ (old cand : List ℕ) (m : Marked) (start : ℕ) (y : Storing old cand 
   long = store-valid old (y .ok) .long
 
   pub entries-for : Entries old (m .starts) (m .sizes) (m .count)
-  entries-for = rw (y .shared .starts, y .shared .sizes, y .shared .count) (entries-of old (directory old) entries long)
+  entries-for = rw (y .shared .starts-are, y .sizes, y .shared .count-is) (entries-of old (directory old) entries long)
 
   -- an update that goes by its number goes by its first block
   goes-entry : (k i : ℕ) → k ≡ blocksOf (totalSize cand) → i < m .count → choice.goes (held m) k start i ≡ goes old cand start (startOf (directory old) i)
   unfolding choice.goes touches held goes touched sharesEntry
   goes-entry k i e l =
-      let n : i < directory old .count = rw (y .shared .count) at l in
-      rw (y .shared .marks .each i l, y .shared .starts, y .shared .sizes, entries .sized i n, e)
+      let n : i < directory old .count = rw (y .shared .count-is) at l in
+      rw (y .shared .marks .each i l, y .shared .starts-are, y .sizes, entries .sized i n, e)
 
   -- one with a block outside the run is not overwritten whole
   fills-entry : (k i c : ℕ) → k ≡ blocksOf (totalSize cand) → i < m .count → inRun start k c ≡ false → startOf (directory old) i ≤ c → c < startOf (directory old) i + sizeAt old (startOf (directory old) i)
       → fills (held m) k start i ≡ goes old cand start (startOf (directory old) i)
   unfolding fills within held
   fills-entry k i c e l out from upto =
-      let n : i < directory old .count = rw (y .shared .count) at l in
+      let n : i < directory old .count = rw (y .shared .count-is) at l in
       let z : leb start (getD (m .starts) i 0) && leb (getD (m .starts) i 0 + getD (m .sizes) i 0) (start + k) ≡ false =
       no-true (leb start (getD (m .starts) i 0) && leb (getD (m .starts) i 0 + getD (m .sizes) i 0) (start + k)) (λ q. let w = and-true (leb start (getD (m .starts) i 0)) (leb (getD (m .starts) i 0 + getD (m .sizes) i 0) (start + k)) q in
-      let a : start ≤ startOf (directory old) i = rw (y .shared .starts) at (leb-true start (getD (m .starts) i 0) (w .0)) in
-      let b : startOf (directory old) i + sizeOf (directory old) i ≤ start + k = rw (y .shared .starts, y .shared .sizes) at (leb-true (getD (m .starts) i 0 + getD (m .sizes) i 0) (start + k) (w .1)) in
+      let a : start ≤ startOf (directory old) i = rw (y .shared .starts-are) at (leb-true start (getD (m .starts) i 0) (w .0)) in
+      let b : startOf (directory old) i + sizeOf (directory old) i ≤ start + k = rw (y .shared .starts-are, y .sizes) at (leb-true (getD (m .starts) i 0 + getD (m .sizes) i 0) (start + k) (w .1)) in
       let u : startOf (directory old) i + sizeAt old (startOf (directory old) i) ≤ start + k = rw (← entries .sized i n) b in
       true≢false (sym (at-run start k c (omega arith) (omega arith)) ∙ out)) in
       rw z (goes-entry k i e l)
@@ -117,9 +118,9 @@ module _ (old cand : List ℕ) (m : Marked) (start : ℕ) (y : Storing old cand 
       at-owned : (b c : ℕ) → b < blockCount old → inRun start (blocksOf (totalSize cand)) c ≡ false → Owned old (first old) b c → marked (m .starts) marks (m .count) b ≡ goes old cand start b
       at-owned b c l out o =
           let w = entries .every b l (o .at) in
-          let n : w .0 < m .count = omega (arith, w .1, y .shared .count) in
+          let n : w .0 < m .count = omega (arith, w .1, y .shared .count-is) in
           let q : k ≡ blocksOf (totalSize cand) = f ∙ ap blocksOf e in
-          ap (λ (xs : List ℕ). marked xs marks (m .count) b) (y .shared .starts) ∙ ap (λ (c : ℕ). marked (directory old .starts) marks c b) (y .shared .count)
+          ap (λ (xs : List ℕ). marked xs marks (m .count) b) (y .shared .starts-are) ∙ ap (λ (c : ℕ). marked (directory old .starts) marks c b) (y .shared .count-is)
           ∙ ap (marked (directory old .starts) marks (directory old .count)) (sym (w .2))
           ∙ marked-at old (directory old) marks entries (w .0) (w .1) ∙ g .each (w .0) n
           ∙ fills-entry k (w .0) c q n (rw q out) (rw (w .2) (o .from)) (rw (w .2) (o .upto))

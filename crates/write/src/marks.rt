@@ -73,14 +73,20 @@ fn outdates(store: &[u8], shares: bool, start: u32, new: u32) -> bool
 }
 
 // Does some stored update share, with a revision that is equal or greater?
-pub fn outdated(store: &[u8], m: Marked, candidate: &[u8]) -> bool
-    requires { ⌜ Shared (now store) (now candidate) m ⌝ }
+pub fn outdated<'a>(
+    store: &[u8],
+    starts: &'a [u32; 32],
+    shares: &'a [bool; 32],
+    count: usize,
+    candidate: &[u8],
+) -> bool
+    requires { ⌜ Shared (now store) (now candidate) (now starts) (now shares) count ⌝ }
     ensures { λ r. ⌜ r ≡ outdated (now (store .entry)) (now (candidate .entry)) ⌝ }
 {
     let new = fields::revision(candidate);
     let mut i: usize = 0;
-    while i < m.count {
-        if outdates(store, m.shares[i], m.starts[i], new) {
+    while i < count {
+        if outdates(store, shares[i], starts[i], new) {
             return true;
         }
         i += 1;

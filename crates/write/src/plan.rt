@@ -2,7 +2,7 @@
 ghost use mathlib.Core.Path.{_≡_};
 ghost use Prim.Native.Nat.{_/_, _≤_};
 ghost use lib.ListN.{length};
-ghost use Rattle.placement.specs.Marks.{held};
+ghost use Rattle.placement.specs.Marks.{held, marksOf};
 ghost use Rattle.placement.specs.Choose.{choose};
 ghost use Rattle.write.specs.MarkLaws.{Shared};
 ghost use Rattle.write.specs.Write.{placed, markedAnswer};
@@ -11,37 +11,50 @@ use calls::answer;
 use calls::answer::Answer;
 use calls::answer::Written;
 use placement::Choice;
-use placement::Marked;
 
 // Check 8: the run that touches the fewest non-sharing updates, lowest start on a tie.
-fn place(m: Marked, n: u32, k: u32) -> Answer
-    requires { ⌜ (m .count ≤ 32) × (n ≤ 32) ⌝ }
-    ensures { λ r. ⌜ r ≡ placed (held m) (choose n k (held m)) ⌝ }
+fn place<'a>(
+    starts: &'a [u32; 32],
+    sizes: &'a [u32; 32],
+    shares: &'a [bool; 32],
+    keeps: &'a [bool; 32],
+    count: usize,
+    n: u32,
+    k: u32,
+) -> Answer
+    requires { ⌜ (count ≤ 32) × (n ≤ 32) ⌝ }
+    ensures { λ r. ⌜ r ≡ placed (held (marksOf (now (starts .entry)) (now (sizes .entry)) (now (shares .entry)) (now (keeps .entry)) count)) (choose n k (held (marksOf (now (starts .entry)) (now (sizes .entry)) (now (shares .entry)) (now (keeps .entry)) count))) ⌝ }
 {
-    let shares = m.shares;
-    let choice = placement::choose_run(m, n, k);
+    let choice = placement::choose_run(starts, sizes, shares, keeps, count, n, k);
     match choice {
         Choice::Nowhere => answer::refuse(0x93, 5),
         Choice::At { start, touched } => Answer::Written(Written {
             start,
-            emptied: placement::shared(shares, m.count) + touched,
+            emptied: placement::shared(shares, count) + touched,
         }),
     }
 }
 
-// Checks 6 to 8, for a candidate of `k` blocks.
-pub fn plan_marked(store: &[u8], m: Marked, candidate: &[u8], k: u32) -> Answer
-    requires { ⌜ Shared (now store) (now candidate) m × (length (now store) / 2048 ≤ 32) ⌝ }
-    ensures { λ r. ⌜ r ≡ markedAnswer (now (store .entry)) (now (candidate .entry)) (held m) k ⌝ }
+// Checks 6 to 8, for a candidate of `k` blocks. The stored updates are lent by their starts, sizes and marks.
+pub fn plan_marked<'a>(
+    store: &[u8],
+    starts: &'a [u32; 32],
+    sizes: &'a [u32; 32],
+    shares: &'a [bool; 32],
+    keeps: &'a [bool; 32],
+    count: usize,
+    candidate: &[u8],
+    k: u32,
+) -> Answer
+    requires { ⌜ Shared (now store) (now candidate) (now starts) (now shares) count × (length (now store) / 2048 ≤ 32) ⌝ }
+    ensures { λ r. ⌜ r ≡ markedAnswer (now (store .entry)) (now (candidate .entry)) (held (marksOf (now (starts .entry)) (now (sizes .entry)) (now (shares .entry)) (now (keeps .entry)) count)) k ⌝ }
 {
-    if marks::outdated(store, m, candidate) {
+    if marks::outdated(store, starts, shares, count, candidate) {
         return answer::refuse(0x98, 0);
     }
-    let shares = m.shares;
-    let keeps = m.keeps;
-    if placement::torn(shares, keeps, m.count) {
+    if placement::torn(shares, keeps, count) {
         return answer::refuse(0x93, 4);
     }
     let n = (store.len() / 2048) as u32;
-    place(m, n, k)
+    place(starts, sizes, shares, keeps, count, n, k)
 }

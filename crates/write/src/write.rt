@@ -3,6 +3,8 @@ ghost use mathlib.Core.Path.{_≡_};
 ghost use mathlib.Core.Bool.{true};
 ghost use Rattle.update.specs.Fields.{revision, totalSize};
 ghost use Rattle.store.specs.Scan.{directory};
+ghost use mathlib.Core.List.{[]};
+ghost use Rattle.placement.specs.Marks.{marksOf};
 ghost use Rattle.outcome.specs.Processors.{listOk};
 ghost use Rattle.outcome.specs.Bytes.{outcomeBytes};
 ghost use Rattle.write.specs.Write.{goes, goodAnswer, planAnswer, readBack, writeAnswer, bytesAfter, writeBytes};
@@ -14,7 +16,6 @@ use crate::processors;
 use calls::answer;
 use calls::answer::Answer;
 use outcome::bytes;
-use placement::Marked;
 use store::directory;
 use store::directory::Directory;
 use update::fields;
@@ -22,20 +23,26 @@ use update::sizes;
 use update::verdict::Verdict;
 
 // Empties all sharing updates, wherever they lie, and all that the run touches, and puts the candidate at the start.
-fn store_candidate(store: &mut [u8], m: Marked, start: u32, candidate: &[u8])
-    requires { ⌜ Storing (now store) (now candidate) m start ⌝ }
+fn store_candidate<'a>(
+    store: &mut [u8],
+    starts: &'a [u32; 32],
+    sizes: &'a [u32; 32],
+    shares: &'a [bool; 32],
+    count: usize,
+    start: u32,
+    candidate: &[u8],
+)
+    requires { ⌜ Storing (now store) (now candidate) (marksOf (now starts) (now sizes) (now shares) [] count) start ⌝ }
     ensures { λ _. ⌜ now (store .exit) ≡ outcomeBytes (now (store .entry)) (totalSize (now (candidate .entry))) (now (candidate .entry)) start (goes (now (store .entry)) (now (candidate .entry)) start) ⌝ }
 {
     let t = sizes::total_size(candidate);
-    let gone = placement::to_fill(m, sizes::blocks_of(t), start);
-    let starts = m.starts;
-    let sizes = m.sizes;
+    let gone = placement::to_fill(starts, sizes, shares, count, sizes::blocks_of(t), start);
     bytes::write_bytes(
         store,
-        starts,
-        sizes,
+        *starts,
+        *sizes,
         gone,
-        m.count,
+        count,
         start,
         candidate,
         t as usize,
@@ -43,8 +50,17 @@ fn store_candidate(store: &mut [u8], m: Marked, start: u32, candidate: &[u8])
 }
 
 // Check 9, and the bytes. `planned` is the answer of checks 1 to 8.
-fn finish(store: &mut [u8], m: Marked, planned: Answer, candidate: &[u8], back: u32) -> Answer
-    requires { ⌜ Storable (now store) (now candidate) m planned ⌝ }
+fn finish<'a>(
+    store: &mut [u8],
+    starts: &'a [u32; 32],
+    sizes: &'a [u32; 32],
+    shares: &'a [bool; 32],
+    count: usize,
+    planned: Answer,
+    candidate: &[u8],
+    back: u32,
+) -> Answer
+    requires { ⌜ Storable (now store) (now candidate) (marksOf (now starts) (now sizes) (now shares) [] count) planned ⌝ }
     ensures answers { λ r. ⌜ r ≡ readBack back (revision (now (candidate .entry))) planned ⌝ }
     ensures stores { λ r. ⌜ now (store .exit) ≡ bytesAfter (now (store .entry)) (now (candidate .entry)) r ⌝ }
 {
@@ -52,8 +68,7 @@ fn finish(store: &mut [u8], m: Marked, planned: Answer, candidate: &[u8], back: 
         Answer::Written(w) => {
             let revision = fields::revision(candidate);
             if back == revision {
-                let start = w.start;
-                store_candidate(store, m, start, candidate);
+                store_candidate(store, starts, sizes, shares, count, w.start, candidate);
                 planned
             } else {
                 answer::refuse(0x97, 0)
@@ -84,8 +99,27 @@ fn write_good(
     let covered = processors::covered(signatures, platforms, candidate);
     if processors::covers_one(covered, signatures.len()) {
         let m = marks::mark(store, d, signatures, platforms, covered, candidate);
-        let planned = plan::plan_marked(store, m, candidate, k);
-        finish(store, m, planned, candidate, back)
+        let count = m.count;
+        let planned = plan::plan_marked(
+            store,
+            &m.starts,
+            &m.sizes,
+            &m.shares,
+            &m.keeps,
+            count,
+            candidate,
+            k,
+        );
+        finish(
+            store,
+            &m.starts,
+            &m.sizes,
+            &m.shares,
+            count,
+            planned,
+            candidate,
+            back,
+        )
     } else {
         answer::refuse(0x94, 0)
     }

@@ -6,15 +6,15 @@ use Prim.Native.Nat.{_≤_, _-_}
 use Rattle.laws.specs.Below.{anyBelow}
 use Rattle.laws.specs.Loops.{scan}
 use Rattle.placement.specs.Choose.{touches, goes, bars, barred}
-use Rattle.placement.specs.Marks.{held}
+use Rattle.placement.specs.Marks.{held, marksOf}
 use Rattle.placement.proofs.barred.Statement.{statement}
 use Rattle.placement.proofs.barred.Tie as tie
 
 abbrev Inv-loop : tie.InvT-loop
-Inv-loop k s m i₀ i = (i ≤ m .count) × (anyBelow i (bars (held m) k s) ≡ false)
+Inv-loop starts sizes shares keeps count k s i₀ i = (i ≤ count) × (anyBelow i (bars (held (marksOf starts sizes shares keeps count)) k s) ≡ false)
 
 abbrev μ-loop : tie.MeasureT-loop
-μ-loop k s m i₀ i = m .count - i
+μ-loop starts sizes shares keeps count k s i₀ i = count - i
 
 pub barred-spec : {M : Type 1} → statement M
 unfolding barred bars goes touches held

@@ -8,10 +8,10 @@ use Rattle.placement.proofs.shared.Statement.{statement}
 use Rattle.placement.proofs.shared.Tie as tie
 
 abbrev Inv-loop : tie.InvT-loop
-Inv-loop count shares sharing₀ i₀ sharing i = (i ≤ count) × (sharing ≤ i) × (sharing ≡ countBelow i (markAt shares))
+Inv-loop shares count sharing₀ i₀ sharing i = (i ≤ count) × (sharing ≤ i) × (sharing ≡ countBelow i (markAt shares))
 
 abbrev μ-loop : tie.MeasureT-loop
-μ-loop count shares sharing₀ i₀ sharing i = count - i
+μ-loop shares count sharing₀ i₀ sharing i = count - i
 
 pub shared-spec : {M : Type 1} → statement M
 unfolding markAt

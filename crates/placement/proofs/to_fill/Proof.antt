@@ -1,20 +1,21 @@
 -- `placement::to_fill` meets its contract. The loop's invariant: the marks passed are right.
 use mathlib.Core.Path.{refl}
 use mathlib.Core.Bool.{false}
+use mathlib.Core.List.{[]}
 use Prim.Native.Nat.{_≤_, _-_}
 use native.Mathlib.Omega.{arith}
 use borrow.Author.Needs.{needs}
 use Rattle.laws.specs.Arrays.{Filled, filled-none, filled-more, filled-all}
 use Rattle.placement.specs.Choose.{touches, goes, within, fills}
-use Rattle.placement.specs.Marks.{held}
+use Rattle.placement.specs.Marks.{held, marksOf}
 use Rattle.placement.proofs.to_fill.Statement.{statement}
 use Rattle.placement.proofs.to_fill.Tie as tie
 
 abbrev Inv-loop : tie.InvT-loop
-Inv-loop k s m marks₀ i₀ marks i = (i ≤ m .count) × Filled false 32 (fills (held m) k s) i marks
+Inv-loop starts sizes shares count k s marks₀ i₀ marks i = (i ≤ count) × Filled false 32 (fills (held (marksOf starts sizes shares [] count)) k s) i marks
 
 abbrev μ-loop : tie.MeasureT-loop
-μ-loop k s m marks₀ i₀ marks i = m .count - i
+μ-loop starts sizes shares count k s marks₀ i₀ marks i = count - i
 
 loop-again : tie.Need-loop-again Inv-loop μ-loop
 unfolding fills within goes touches held

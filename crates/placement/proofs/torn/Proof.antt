@@ -10,10 +10,10 @@ use Rattle.placement.proofs.torn.Statement.{statement}
 use Rattle.placement.proofs.torn.Tie as tie
 
 abbrev Inv-loop : tie.InvT-loop
-Inv-loop count shares keeps i₀ i = (i ≤ count) × (anyBelow i (bothAt shares keeps) ≡ false)
+Inv-loop shares keeps count i₀ i = (i ≤ count) × (anyBelow i (bothAt shares keeps) ≡ false)
 
 abbrev μ-loop : tie.MeasureT-loop
-μ-loop count shares keeps i₀ i = count - i
+μ-loop shares keeps count i₀ i = count - i
 
 pub torn-spec : {M : Type 1} → statement M
 unfolding bothAt markAt

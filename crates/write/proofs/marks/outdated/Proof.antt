@@ -10,10 +10,10 @@ use Rattle.write.proofs.marks.outdated.Statement.{statement}
 use Rattle.write.proofs.marks.outdated.Tie as tie
 
 abbrev Inv-loop : tie.InvT-loop
-Inv-loop store candidate m new i₀ i = (i ≤ m .count) × (anyBelow i (outdates store candidate) ≡ false)
+Inv-loop store starts shares count candidate new i₀ i = (i ≤ count) × (anyBelow i (outdates store candidate) ≡ false)
 
 abbrev μ-loop : tie.MeasureT-loop
-μ-loop store candidate m new i₀ i = m .count - i
+μ-loop store starts shares count candidate new i₀ i = count - i
 
 pub outdated-spec : {M : Type 1} → statement M
 outdated-spec =
