@@ -44,15 +44,15 @@ fn empty_if(gone: bool, store: &mut [u8], start: u32, size: u32)
 }
 
 // The marked ones of the first `count` entries are emptied.
-fn empty_marked(
+fn empty_marked<'a>(
     store: &mut [u8],
-    starts: [u32; 32],
-    sizes: [u32; 32],
+    starts: &'a [u32; 32],
+    sizes: &'a [u32; 32],
     gone: [bool; 32],
     count: usize,
 )
-    requires { ⌜ Entries (now store) starts sizes count ⌝ }
-    ensures { λ _. ⌜ now (store .exit) ≡ cleared (now (store .entry)) (marked starts gone count) ⌝ }
+    requires { ⌜ Entries (now store) (now starts) (now sizes) count ⌝ }
+    ensures { λ _. ⌜ now (store .exit) ≡ cleared (now (store .entry)) (marked (now (starts .entry)) gone count) ⌝ }
 {
     let mut i: usize = 0;
     while i < count {
@@ -63,20 +63,20 @@ fn empty_marked(
 
 // All the bytes of a write: the marked ones of the first `count` entries are emptied, and the candidate's `t` bytes stand at block `start`, FFh
 // behind them to the end of its last block.
-pub fn write_bytes(
+pub fn write_bytes<'a>(
     store: &mut [u8],
-    starts: [u32; 32],
-    sizes: [u32; 32],
+    starts: &'a [u32; 32],
+    sizes: &'a [u32; 32],
     gone: [bool; 32],
     count: usize,
     start: u32,
     cand: &[u8],
     t: usize,
 )
-    requires { ⌜ Entries (now store) starts sizes count ⌝ }
+    requires { ⌜ Entries (now store) (now starts) (now sizes) count ⌝ }
     requires { ⌜ t ≤ length (now cand) ⌝ }
     requires { ⌜ (start + blocksOf t) * 2048 ≤ length (now store) ⌝ }
-    ensures { λ _. ⌜ now (store .exit) ≡ outcomeBytes (now (store .entry)) t (now (cand .entry)) start (marked starts gone count) ⌝ }
+    ensures { λ _. ⌜ now (store .exit) ≡ outcomeBytes (now (store .entry)) t (now (cand .entry)) start (marked (now (starts .entry)) gone count) ⌝ }
 {
     empty_marked(store, starts, sizes, gone, count);
     let at = start as usize * 2048;

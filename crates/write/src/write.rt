@@ -39,8 +39,8 @@ fn store_candidate<'a>(
     let gone = placement::to_fill(starts, sizes, shares, count, sizes::blocks_of(t), start);
     bytes::write_bytes(
         store,
-        *starts,
-        *sizes,
+        starts,
+        sizes,
         gone,
         count,
         start,

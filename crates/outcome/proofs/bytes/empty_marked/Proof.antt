@@ -9,10 +9,10 @@ use Rattle.outcome.proofs.bytes.empty_marked.Statement.{statement}
 use Rattle.outcome.proofs.bytes.empty_marked.Tie as tie
 
 abbrev Inv-loop : tie.InvT-loop
-Inv-loop store₀ count starts sizes gone i₀ store i = (i ≤ count) × (length store ≡ length store₀) × (store ≡ cleared store₀ (marked starts gone i))
+Inv-loop store₀ starts sizes count gone i₀ store i = (i ≤ count) × (length store ≡ length store₀) × (store ≡ cleared store₀ (marked starts gone i))
 
 abbrev μ-loop : tie.MeasureT-loop
-μ-loop store₀ count starts sizes gone i₀ store i = count - i
+μ-loop store₀ starts sizes count gone i₀ store i = count - i
 
 pub empty-marked-spec : {M : Type 1} → statement M
 empty-marked-spec =

@@ -13,10 +13,10 @@ store-candidate-spec =
     (λ c κs. search needs)
     (search needs)
     (λ c κs.
-    let y = c .before .before .before .before .before .before .before .before .pre in
-    let t = c .before .before .before .before .before .total-size .ensures in
+    let y = c .before .before .before .before .before .before .pre in
+    let t = c .before .before .before .total-size .ensures in
     (entries-for _ _ _ _ y, (whole-lent _ _ _ _ y _ t, run-inside _ _ _ _ y _ t)))
     (search needs)
     (λ c.
-    let at = c .before .before .before .before .before .before .before .before in
-    stored-bytes _ _ _ _ (at .before .before .before .pre) _ _ _ _ (at .total-size .ensures) (c .before .before .before .before .before .before .before .blocks-of .ensures) (c .before .before .before .before .before .before .to-fill .ensures) (c .before .before .write-bytes .ensures)))
+    let at = c .before .before .before .before .before .before in
+    stored-bytes _ _ _ _ (at .before .before .before .pre) _ _ _ _ (at .total-size .ensures) (c .before .before .before .before .before .blocks-of .ensures) (c .before .before .before .before .to-fill .ensures) (c .before .before .write-bytes .ensures)))
