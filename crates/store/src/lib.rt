@@ -1,5 +1,5 @@
 // A store: blocks of 2,048 bytes, what stands at each, the directory of held updates, and whether the store is valid.
-// Every public function takes any bytes, of any length.
+// Every function that judges or lists a store takes any bytes, of any length.
 pub mod blocks;
 mod clash;
 pub mod directory;
