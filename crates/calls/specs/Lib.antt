@@ -3,5 +3,4 @@ pub mod Answers
 pub mod Presence
 pub mod Control
 pub mod Read
-pub mod Copy
 pub mod ReadLaws

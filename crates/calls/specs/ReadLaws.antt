@@ -1,21 +1,21 @@
--- Laws of the read: the cases of the answer, and that what is copied fits and is there.
+-- Laws of the read: the cases of the answer, and that what is copied fits, is there, and is at most 16 blocks.
 --   kinds, reading    the cases, as `search` takes them
 --   copied            the copy, as `search` takes it
-use Prim.Native.Nat.{ℕ, _*_, _/_, _<_, _≤_}
+use Prim.Native.Nat.{ℕ, _+_, _*_, _/_, _<_, _≤_}
 use mathlib.Core.Path.{_≡_, refl, sym, _∙_}
 use mathlib.Core.Bool.{Bool, true, false}
-use mathlib.Core.List.{List, _++_}
+use mathlib.Core.List.{List}
 use native.Mathlib.Omega.{arith}
-use lib.ListN.{length, take, drop}
+use lib.ListN.{length}
 use lib.Dec.{leb, ltb}
-use borrow.Author.Tests.{lt-ltb, le-ltb, leb-true, ltb-true}
+use borrow.Author.Tests.{lt-ltb, le-ltb, leb-true}
 use Rattle.laws.specs.Unless.{unless}
+use Rattle.paste.specs.Paste.{putAt, put-first}
 use Rattle.store.specs.Blocks.{blockCount, fromBlock}
 use Rattle.store.specs.Scan.{slotAt, begins, storeOk, directory}
 use Rattle.store.specs.Kind.{kindOf, kindAt, kindIn}
 use Rattle.store.specs.SlotLaws.{slot-inside, single-filled}
 use Rattle.store.specs.StoreLaws.{directory-ok}
-use Rattle.store.specs.ValidLaws.{store-valid}
 use Rattle.store.specs.DirectoryLaws.{kind-law}
 use Rattle.store.specs.declared.directory.Directory.{Directory}
 use Rattle.store.specs.declared.slot.Slot.{Slot}
@@ -24,7 +24,7 @@ use Rattle.store.specs.declared.kind.Kind.{Kind}
 use Rattle.store.specs.declared.kind.Kind.the-variants.{Free, First, Later}
 use Rattle.calls.specs.Answers.{refusal}
 use Rattle.calls.specs.declared.answer.Answer.{Answer}
-use Rattle.calls.specs.declared.answer.Answer.the-variants.{Presence, Written, Control, Read, Refused}
+use Rattle.calls.specs.declared.answer.Answer.the-variants.{Read}
 use Rattle.calls.specs.Read.{readBlocks, readKind, readAnswer, blocksRead, readBytes}
 
 -- the answer by the kind, where r is the kind that a call gave
@@ -61,7 +61,7 @@ module _ (s : List ℕ) (d : Directory) (b m : ℕ) (z : Answer) (e : d ≡ dire
 
 pub ruleset reading = (read-bad, read-number, read-kind)
 
--- what is copied fits, and is there
+-- what is copied fits, is there, and is at most 16 blocks
 module _ (s : List ℕ) (b m : ℕ) where
   blocks-fit : (k : ℕ) → blocksRead (readBlocks k m) * 2048 ≤ m
   unfolding readBlocks unless
@@ -85,12 +85,12 @@ module _ (s : List ℕ) (b m : ℕ) where
   kind-fits (First k) = blocks-fit k
   kind-fits Later = omega arith
 
-  kind-there : (t : Bool) (x : Slot) → begins s b ≡ t → slotAt s b ≡ x → b < blockCount s → length s ≡ blockCount s * 2048 → blocksRead (readKind (kindOf t x) m) * 2048 ≤ length (fromBlock s b)
+  kind-there : (t : Bool) (x : Slot) → slotAt s b ≡ x → (blocksRead (readKind (kindOf t x) m) * 2048 ≤ length (fromBlock s b)) × (blocksRead (readKind (kindOf t x) m) ≤ 16)
   unfolding readKind slotAt
-  kind-there true Unused p q l e = omega (arith, blocks-few 1, single-filled (fromBlock s b) q .0)
-  kind-there true (Update k) p q l e = omega (arith, blocks-few k, slot-inside (fromBlock s b) k q .2)
-  kind-there true Bad p q l e = omega arith
-  kind-there false x p q l e = omega arith
+  kind-there true Unused q = (omega (arith, blocks-few 1, single-filled (fromBlock s b) q .0), omega (arith, blocks-few 1))
+  kind-there true (Update k) q = let z = slot-inside (fromBlock s b) k q in (omega (arith, blocks-few k, z .2), omega (arith, blocks-few k, z .1))
+  kind-there true Bad q = (omega arith, omega arith)
+  kind-there false x q = (omega arith, omega arith)
 
   pub read-fits : blocksRead (readAnswer s b m) * 2048 ≤ m
   unfolding readAnswer unless
@@ -101,25 +101,31 @@ module _ (s : List ℕ) (b m : ℕ) where
       go true false = omega arith
       go false u = omega arith
 
-  pub read-there : blocksRead (readAnswer s b m) * 2048 ≤ length (fromBlock s b)
+  pub read-there : (blocksRead (readAnswer s b m) * 2048 ≤ length (fromBlock s b)) × (blocksRead (readAnswer s b m) ≤ 16)
   unfolding readAnswer unless kindAt
-  read-there = go (storeOk s) refl (ltb b (blockCount s)) refl
+  read-there = go (storeOk s) (ltb b (blockCount s))
     where
-      go : (t : Bool) → storeOk s ≡ t → (u : Bool) → ltb b (blockCount s) ≡ u → blocksRead (unless t (refusal 0x92 1) (unless u (refusal 0x99 0) (readKind (kindOf (begins s b) (slotAt s b)) m))) * 2048 ≤ length (fromBlock s b)
-      go true p true q = kind-there (begins s b) (slotAt s b) refl refl (ltb-true b (blockCount s) q) (store-valid s p .long)
-      go true p false q = omega arith
-      go false p u q = omega arith
+      copied-by : Answer → Type 0
+      copied-by a = (blocksRead a * 2048 ≤ length (fromBlock s b)) × (blocksRead a ≤ 16)
+
+      go : (t u : Bool) → copied-by (unless t (refusal 0x92 1) (unless u (refusal 0x99 0) (readKind (kindOf (begins s b) (slotAt s b)) m)))
+      go true true = kind-there (begins s b) (slotAt s b) refl
+      go true false = (omega arith, omega arith)
+      go false u = (omega arith, omega arith)
 
 -- the same of what calls answered
 module _ (s p : List ℕ) (b m : ℕ) (a : Answer) (k : ℕ) (e : a ≡ readAnswer s b m) (h : k ≡ blocksRead a) where
-  pub copy-fits : k * 2048 ≤ m
-  copy-fits = rw (h, e) (read-fits s b m)
+  pub copy-fits : 0 + k * 2048 ≤ m
+  copy-fits = rw (h, e) (omega (arith, read-fits s b m))
 
   pub copy-there : p ≡ fromBlock s b → k * 2048 ≤ length p
-  copy-there q = rw (h, e, q) (read-there s b m)
+  copy-there q = rw (h, e, q) (read-there s b m .0)
 
-pub read-copied : (s d p r : List ℕ) (b k : ℕ) (a : Answer) → a ≡ readAnswer s b (length d) → k ≡ blocksRead a → p ≡ fromBlock s b → r ≡ take (k * 2048) p ++ drop (k * 2048) d → r ≡ readBytes s b d
+  pub copy-short : k * 2048 ≤ 32768
+  copy-short = rw (h, e) (omega (arith, read-there s b m .1))
+
+pub read-copied : (s d p r : List ℕ) (b k : ℕ) (a : Answer) → a ≡ readAnswer s b (length d) → k ≡ blocksRead a → p ≡ fromBlock s b → r ≡ putAt d 0 p (k * 2048) → r ≡ readBytes s b d
 unfolding readBytes
-read-copied s d p r b k a e h q c = c ∙ rw (h, e, q)
+read-copied s d p r b k a e h q c = c ∙ put-first d p (k * 2048) ∙ rw (h, e, q)
 
-pub ruleset copied = (copy-fits, copy-there, read-copied)
+pub ruleset copied = (copy-fits, copy-there, copy-short, read-copied)

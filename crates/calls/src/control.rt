@@ -1,6 +1,6 @@
 // Sub-function 2, control. It never looks at the store, and nothing turns loading off.
 ghost use mathlib.Core.Path.{_≡_};
-ghost use Rattle.calls.specs.Control.{statusOf, controlReply};
+ghost use Rattle.calls.specs.Control.{statusOf, accepted, controlReply};
 use crate::answer::Answer;
 use crate::answer::Control;
 use crate::answer::Refused;
@@ -12,22 +12,26 @@ fn status_of(loading: bool) -> u8
     if loading { 1 } else { 0 }
 }
 
+// A task that is known, with the loading state that it leaves.
+fn accepted(loading: bool) -> Reply
+    ensures { λ r. ⌜ r ≡ accepted loading ⌝ }
+{
+    Reply {
+        answer: Answer::Control(Control {
+            status: status_of(loading),
+        }),
+        loading,
+    }
+}
+
 pub fn control(task: u32, loading: bool) -> Reply
     ensures { λ r. ⌜ r ≡ controlReply task loading ⌝ }
 {
     if task == 1 {
-        return Reply {
-            answer: Answer::Control(Control { status: 1 }),
-            loading: true,
-        };
+        return accepted(true);
     }
     if task == 2 {
-        return Reply {
-            answer: Answer::Control(Control {
-                status: status_of(loading),
-            }),
-            loading,
-        };
+        return accepted(loading);
     }
     Reply {
         answer: Answer::Refused(Refused {

@@ -2,6 +2,5 @@
 // lengths and any numbers end in a defined answer.
 pub mod answer;
 pub mod control;
-mod copy;
 pub mod presence;
 pub mod read;

@@ -5,7 +5,6 @@ ghost use Rattle.calls.specs.Read.{readBlocks, readKind, readAnswer, blo
 use crate::answer;
 use crate::answer::Answer;
 use crate::answer::Read;
-use crate::copy;
 use store::blocks;
 use store::directory;
 use store::kind;
@@ -69,8 +68,9 @@ pub fn read(store: &[u8], block: u32, destination: &mut [u8]) -> Answer
 {
     let answer = read_answer(store, block, destination.len());
     let k = blocks_read(answer);
-    copy::copy(
+    paste::put(
         destination,
+        0,
         blocks::from_block(store, block),
         k as usize * 2048,
     );

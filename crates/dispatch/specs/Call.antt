@@ -7,7 +7,6 @@
 use Prim.Native.Nat.{ℕ}
 use mathlib.Core.Bool.{Bool, cond, _&&_}
 use mathlib.Core.List.{List}
-use lib.ListN.{length}
 use lib.Dec.{eqb}
 use Rattle.laws.specs.Unless.{unless}
 use Rattle.calls.specs.Answers.{refusal}

@@ -1,11 +1,10 @@
 -- The cases of a call, each from what the tests and the called function say.
 --   Called      the reply, the store and the destination afterwards are those of the definitions
 use Prim.Native.Nat.{ℕ}
-use mathlib.Core.Path.{_≡_, refl, sym, _∙_}
-use mathlib.Core.Bool.{Bool, _&&_}
+use mathlib.Core.Path.{_≡_, refl}
+use mathlib.Core.Bool.{Bool}
 use mathlib.Core.List.{List}
 use lib.ListN.{length}
-use lib.Dec.{eqb}
 use borrow.Author.Tests.{eq-eqb, ne-eqb}
 use Rattle.laws.specs.Unless.{unless}
 use Rattle.calls.specs.Presence.{presenceAnswer}

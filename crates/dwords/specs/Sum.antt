@@ -4,12 +4,11 @@
 --   dwordSum                        the sum of the dwords of a list of bytes, modulo 2^32
 --   adding                          a loop that adds one dword a turn: its start, its turn, its end
 --   sum-append                      the sum of two parts, the first of whole dwords
-use Prim.Native.Nat.{ℕ, zero, suc, _+_, _*_, _-_, _/_, _%_, _^_, _<_, _≤_}
-use mathlib.Core.Path.{_≡_, refl, sym, _∙_, ap}
+use Prim.Native.Nat.{ℕ, zero, suc, _+_, _*_, _/_, _%_, _^_, _<_, _≤_}
+use mathlib.Core.Path.{_≡_, refl}
 use mathlib.Core.List.{List, [], _∷_, _++_}
-use native.Mathlib.Nat.{not-suc-le-zero}
 use native.Mathlib.Omega.{arith}
-use lib.ListN.{length, getD, drop, length-drop}
+use lib.ListN.{length, drop, length-drop}
 use lib.Seq.{drop-drop}
 use Rattle.dwords.specs.Dword.{little, dword, dword-drop}
 

@@ -5,7 +5,8 @@ ghost use lib.ListN.{length, getD};
 ghost use Rattle.dwords.specs.Dword.{dword};
 ghost use Rattle.dwords.specs.Sum.{dwordSum};
 
-fn wide(x: u8) -> u32
+// A byte as a 32-bit number.
+pub fn wide(x: u8) -> u32
     ensures { λ r. ⌜ (r ≡ x) × (r < 256) ⌝ }
 {
     x as u32

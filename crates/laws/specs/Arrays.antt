@@ -3,6 +3,7 @@
 --   filled-none, filled-more      a loop's start and its turn
 --   filled-at, filled-all         what stands in it, and the loop's end
 --   filling                       all of them, for `search`
+--   set-long                      a list keeps its length where one element is set
 use Prim.Native.Nat.{ℕ, _+_, _<_, _≤_}
 use mathlib.Core.Path.{_≡_, _∙_}
 use mathlib.Core.List.{List}
@@ -38,3 +39,6 @@ module _ {A : Type 0} (z : A) (size : ℕ) (f : ℕ → A) (xs : List A) where
   filled-all i n h l m = let q : i ≡ n = omega arith in rw q at h
 
 pub ruleset filling = (filled-none, filled-more, filled-at, filled-all)
+
+pub set-long : (r d : List ℕ) (i b : ℕ) → length r ≡ length d → length (set r i b) ≡ length d
+set-long r d i b e = length-set r i b ∙ e

@@ -1,9 +1,14 @@
 -- "Each number below n" and "some number below n", as Bools that compute.
 --   allBelow, anyBelow     the two tests
---   all-none .. all-cong   laws of the first: at 0, at i + 1, at a number that fails, what it says, its making
---   any-none .. any-cong   laws of the second: at 0, at i + 1, at a number that passes, what it says, its making
 --   rows                   one scan inside another
-use Prim.Native.Nat.{ℕ, zero, suc, _+_, _<_, _≤_}
+--   all-none, all-more     the first at 0 and at i + 1
+--   all-stop, all-at       it is false where one number fails; where it is true, each passes
+--   all-true, all-cong     it is true where each passes; two tests that agree below n
+--   any-none, any-more     the second at 0 and at i + 1
+--   any-stop, any-at       it is true where one number passes; where it is true, one does
+--   any-fails, any-false   where it is false, each fails; it is false where each does
+--   any-cong               two tests that agree below n
+use Prim.Native.Nat.{ℕ, zero, suc, _+_, _<_}
 use mathlib.Core.Path.{_≡_, refl, sym, _∙_}
 use mathlib.Core.Bool.{Bool, true, false, _&&_, _||_, true≢false}
 use mathlib.Core.Logic.{⊎-elim}

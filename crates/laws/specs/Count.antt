@@ -2,6 +2,7 @@
 --   countBelow               how many
 --   count-mono, count-cong   who passes one test passes the other; the two tests are the same
 --   count-most, count-up     no more pass than there are, and no fewer below a greater bound
+--   count-zero               where none is counted, none passes
 --   either, second           to pass one of two tests, and to pass the second alone
 --   count-split              those that pass one of two: those that pass the first, and those that pass the second alone
 --   counting                 a loop that counts, as `search` takes it
@@ -9,7 +10,7 @@ use Prim.Native.Nat.{ℕ, zero, suc, _+_, _<_, _≤_}
 use mathlib.Core.Path.{_≡_, refl}
 use mathlib.Core.Bool.{Bool, true, false, cond, not, _&&_, _||_}
 use mathlib.Core.Logic.{⊎-elim}
-use native.Mathlib.Nat.{eq-or-lt-of-le}
+use native.Mathlib.Nat.{eq-or-lt-of-le, le-of-suc-le-suc}
 use native.Mathlib.Numerals.{add-one}
 use native.Mathlib.Omega.{arith}
 
@@ -50,6 +51,19 @@ count-up p m (suc n) l =
     ⊎-elim (λ (q : m ≡ suc n). rw q (omega arith))
     (λ (q : m < suc n). omega (arith, one-most (p n) (countBelow n p) .0, count-up p m n (omega arith)))
     (eq-or-lt-of-le l)
+
+one-zero : (a : Bool) (m : ℕ) → cond a (m + 1) m ≡ 0 → (a ≡ false) × (m ≡ 0)
+one-zero true m h = absurd (omega arith)
+one-zero false m h = (refl, h)
+
+pub count-zero : (p : ℕ → Bool) (n k : ℕ) → countBelow n p ≡ 0 → k < n → p k ≡ false
+unfolding countBelow
+count-zero p zero k h l = absurd (omega arith)
+count-zero p (suc n) k h l =
+    let z = one-zero (p n) (countBelow n p) h in
+    ⊎-elim (λ (q : k ≡ n). rw q (z .0))
+    (λ (q : k < n). count-zero p n k (z .1) q)
+    (eq-or-lt-of-le (le-of-suc-le-suc l))
 
 -- a number passes p or q
 unfoldable pub either : (ℕ → Bool) → (ℕ → Bool) → ℕ → Bool

@@ -2,9 +2,10 @@
 --   Pick              none, or a number with its cost
 --   better            the pick so far against one more number
 --   least             the pick among the numbers below k
---   IsLeast           what it says of the number that it picks
---   Promised          what it says: where it picks none, that each is shut
---   least-promised    it says so
+--   IsLeast           s is open and costs c; no open number below k costs less, and each open one before s costs more
+--   Promised          what a pick says: of none, that each number below k is shut; of a number, IsLeast
+--   least-promised    what `least` picks is so
+--   least-cong        it goes by what is shut and what it costs alone
 use Prim.Native.Nat.{ℕ, zero, suc, _<_, _≤_}
 use mathlib.Core.Path.{_≡_, refl, sym, _∙_}
 use mathlib.Core.Bool.{Bool, true, false, cond, true≢false}
@@ -94,3 +95,8 @@ module _ (shut : ℕ → Bool) (cost : ℕ → ℕ) where
   unfolding least
   least-promised zero = below-none (λ t. shut t ≡ true)
   least-promised (suc k) = step k (least shut cost k) (shut k) refl (least-promised k)
+
+pub least-cong : (p q : ℕ → Bool) (f g : ℕ → ℕ) (k : ℕ) → ((s : ℕ) → p s ≡ q s) → ((s : ℕ) → f s ≡ g s) → least p f k ≡ least q g k
+unfolding least
+least-cong p q f g zero a b = refl
+least-cong p q f g (suc k) a b = rw (least-cong p q f g k a b, a k, b k)

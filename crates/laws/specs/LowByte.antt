@@ -1,6 +1,7 @@
 -- The low eight bits of a number.
 --   bit            bit k of a number, as a Bool
---   below8         what holds of 0 to 7 holds of each number below 8
+--   bothBit        both of two numbers have it
+--   bit-low        below 8, the low byte has the number's bit
 --   common-bit     two numbers have a common one among their low eight bits exactly if the low byte of their `and` isn't 0
 use Prim.Native.Nat.{ℕ, zero, suc, _+_, _*_, _%_, _/_, _^_, _<_, min}
 use mathlib.Core.Path.{_≡_, refl, _∙_}
@@ -11,7 +12,7 @@ use lib.Pow.{mod-pow-add}
 use lib.Bits.{bitAnd, and-step, and-shr}
 use borrow.Author.Tests.{eqb-true, eqb-false}
 use Rattle.laws.specs.Bools.{and-true, no-true, no-false}
-use Rattle.laws.specs.Below.{anyBelow, any-fails, any-false, any-at}
+use Rattle.laws.specs.Below.{anyBelow, any-fails, any-false}
 
 unfoldable pub bit : ℕ → ℕ → Bool
 bit x k = eqb (x / 2 ^ k % 2) 1
@@ -27,7 +28,8 @@ and-bit0 x y = omega (arith, and-step x y)
 and-bit : (a b k : ℕ) → bitAnd a b / 2 ^ k % 2 ≡ min (a / 2 ^ k % 2) (b / 2 ^ k % 2)
 and-bit a b k = rw and-shr (and-bit0 (a / 2 ^ k) (b / 2 ^ k))
 
-pub below8 : (P : ℕ → Type 0) → P 0 → P 1 → P 2 → P 3 → P 4 → P 5 → P 6 → P 7 → (k : ℕ) → k < 8 → P k
+-- what holds of 0 to 7 holds of each number below 8
+below8 : (P : ℕ → Type 0) → P 0 → P 1 → P 2 → P 3 → P 4 → P 5 → P 6 → P 7 → (k : ℕ) → k < 8 → P k
 below8 P a b c d e f g h zero l = a
 below8 P a b c d e f g h (suc zero) l = b
 below8 P a b c d e f g h (suc (suc zero)) l = c

@@ -1,7 +1,7 @@
--- Two lists with the same first m elements.
---   Same                   the first m bytes are the same
---   same-less, same-drop   fewer of them; behind the first k
---   same-take              the first m bytes as lists are equal
+-- Two lists of numbers that read the same at the first m places; a place behind the end reads as 0.
+--   Same                   they read the same at each place below m
+--   same-less, same-drop   at fewer places; behind the first k
+--   same-take              where both are m long or longer, their first m elements are equal lists
 use Prim.Native.Nat.{ℕ, _+_, _<_, _≤_}
 use mathlib.Core.Path.{_≡_, sym, _∙_}
 use mathlib.Core.List.{List}

@@ -1,6 +1,7 @@
 -- Checks in a row, each with its refusal: `unless t refusal rest` is the rest where t holds, and the refusal where it doesn't.
---   unless                    the choice; it is shut, so that `search` sees it
+--   unless                    the choice; `unfoldable`, so that a goal keeps it and `search` can match the two laws
 --   unless-pass, unless-stop  its two ways, where r is what a call answered of the test t
+--   checks                    both, for `search`
 use mathlib.Core.Path.{_≡_}
 use mathlib.Core.Bool.{Bool, true, false}
 

@@ -1,8 +1,8 @@
--- The data bytes as a part of the lent bytes.
+-- The data of a load choice.
 --   matching   the data of a choice, by its cases, as `search` takes them
 use Prim.Native.Nat.{ℕ}
 use mathlib.Core.Path.{_≡_, _∙_}
-use mathlib.Core.List.{List, []}
+use mathlib.Core.List.{List}
 use lib.ListN.{take}
 use Rattle.view.specs.View.{dataPart}
 use Rattle.store.specs.Blocks.{fromBlock}

@@ -4,18 +4,16 @@
 --   finding        the scan of the directory, as `search` takes it
 --   choosing       the order of the answers, as `search` takes it
 use Prim.Native.Nat.{ℕ, _+_, _<_, _≤_}
-use mathlib.Core.Path.{_≡_, refl, sym, ap, _∙_}
+use mathlib.Core.Path.{_≡_, sym, _∙_}
 use mathlib.Core.Bool.{Bool, true, false, _&&_, true≢false}
 use mathlib.Core.List.{List}
 use mathlib.Core.Logic.{⊎-elim}
 use native.Mathlib.Nat.{eq-or-lt-of-le}
 use native.Mathlib.Omega.{arith}
-use lib.ListN.{getD}
-use lib.Dec.{leb, ltb}
 use borrow.Author.Tests.{lt-ltb, le-ltb, le-leb, lt-leb}
 use Rattle.laws.specs.Bools.{and-true, no-true}
 use Rattle.laws.specs.Below.{anyBelow, any-none, any-more, any-fails, any-false}
-use Rattle.laws.specs.First.{firstBelow, First, first-is, first-none}
+use Rattle.laws.specs.First.{firstBelow, first-is, first-none}
 use Rattle.laws.specs.Orders.{le-or-lt}
 use Rattle.laws.specs.Unless.{unless}
 use Rattle.update.specs.Fields.{revision}
@@ -25,7 +23,7 @@ use Rattle.store.specs.Blocks.{fromBlock, blockCount}
 use Rattle.store.specs.Scan.{first, storeOk, directory}
 use Rattle.store.specs.StoreLaws.{directory-ok}
 use Rattle.store.specs.ValidLaws.{store-valid}
-use Rattle.store.specs.DirectoryLaws.{startOf, Listing, listing}
+use Rattle.store.specs.DirectoryLaws.{startOf, listing}
 use Rattle.store.specs.declared.directory.Directory.{Directory}
 use Rattle.load.specs.Load.{holds, holder, chosenAt, found, loadChoice}
 use Rattle.load.specs.declared.LoadChoice.{LoadChoice}

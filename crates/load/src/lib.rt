@@ -25,7 +25,7 @@ fn find(store: &[u8], d: Directory, signature: u32, platform: u32) -> LoadChoice
 {
     let mut i: usize = 0;
     while i < d.count {
-        let start = d.starts[i];
+        let start = dwords::wide(d.starts[i]);
         let u = blocks::from_block(store, start);
         if covers::covers(u, signature, platform) {
             return LoadChoice::Chosen {

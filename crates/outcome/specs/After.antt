@@ -24,6 +24,7 @@ kept old e b = first old b && not (e b)
 unfoldable pub after : List ℕ → ℕ → (ℕ → Bool) → ℕ → Bool
 after old start e b = kept old e b || eqb b start
 
+-- t, d, n, k are the numbers of the candidate's verdict: T, data size, entries, blocks
 pub record After (old new cand : List ℕ) (t d n k start : ℕ) (e : ℕ → Bool) : Type 0 where
   -- a valid store of the same length
   pub ok : storeOk new ≡ true

@@ -4,7 +4,8 @@
 --   emptied-same                       the set matters only where it has, or has not, the owner of the block
 --   run-at, at-run, not-run            a block is in the run exactly if it lies between its ends
 --   outcome-length                     an outcome is as long as the old store
---   outcome-run .. outcome-out         its byte in the run, in an emptied update, elsewhere, and outside the run
+--   outcome-run, outcome-out           its byte in the run, and outside it
+--   outcome-emptied, outcome-kept      outside the run: in an emptied update, and elsewhere
 use Prim.Native.Nat.{ℕ, zero, suc, _+_, _*_, _-_, _/_, _<_, _≤_}
 use mathlib.Core.Path.{_≡_, refl, sym, ap, _∙_}
 use mathlib.Core.Bool.{Bool, true, false, _&&_}

@@ -1,9 +1,12 @@
 -- The bytes of an outcome (document 01, "The words of demand 3"): the old store's, with all blocks of the emptied updates filled with FFh, then
 -- the candidate's T bytes put at the start and FFh behind them to the end of the run.
---   tabulate         f 0, f 1, .., n numbers in all
+--   tabulate         f a, f (a + 1), .., n numbers in all
+--   ownedBy          block c belongs to the stored update at block b, one of the set e
 --   emptiedAt        block c belongs to a stored update of the set e
 --   inRun            block c is one of the k from the start on
 --   runByte          byte j of the run
+--   clearedByte      byte i with the updates of e emptied
+--   outcomeByte      byte i of the outcome: the run's in the run, elsewhere the cleared one
 --   outcomeBytes     the whole store, byte by byte
 use Prim.Native.Nat.{ℕ, zero, suc, _+_, _*_, _-_, _/_}
 use mathlib.Core.Bool.{Bool, _&&_}

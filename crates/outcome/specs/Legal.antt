@@ -1,5 +1,6 @@
 -- Outcomes, in document 01's words ("The words of demand 3"). Nothing here says how a run is looked for.
 --   Legal           an outcome, a start block and a set e of first blocks of stored updates, is legal
+--   storedIn        a stored update that it empties begins at block b
 --   emptiedCount    the number of updates it empties
 use Prim.Native.Nat.{ℕ, _+_, _<_, _≤_}
 use mathlib.Core.Path.{_≡_}

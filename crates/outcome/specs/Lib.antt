@@ -8,6 +8,5 @@ pub mod FreeLaws
 pub mod KeptLaws
 pub mod PlacedLaws
 pub mod AfterLaws
-pub mod Paste
 pub mod Cleared
 pub mod Marks

@@ -23,13 +23,13 @@ use Rattle.laws.specs.Bools.{and-true, and-i, or-true-r, bool-same}
 use Rattle.laws.specs.Below.{anyBelow, any-at, any-stop}
 use Rattle.laws.specs.Orders.{le-or-lt}
 use Rattle.laws.specs.Unless.{unless}
+use Rattle.paste.specs.Paste.{putAt, fillAt}
 use Rattle.update.specs.Sizes.{blocksOf}
 use Rattle.store.specs.Blocks.{blockCount}
 use Rattle.store.specs.Scan.{sizeAt, first}
 use Rattle.store.specs.DirectoryLaws.{Listing}
 use Rattle.store.specs.declared.directory.Directory.{Directory}
 use Rattle.outcome.specs.Bytes.{outcomeBytes}
-use Rattle.outcome.specs.Paste.{putAt, fillAt}
 use Rattle.outcome.specs.Cleared.{cleared, cleared-none, cleared-same, cleared-more, outcome-made}
 
 -- entry i begins at block b and is marked
@@ -95,10 +95,11 @@ module _ (old starts sizes : List ℕ) (gone : List Bool) where
   unfolding marked anyBelow
   marks-start = cleared-none old (marked starts gone 0) (λ b. refl)
 
-  pub marks-more : (n i : ℕ) (s r : List ℕ) → Entries old starts sizes n → i < n → s ≡ cleared old (marked starts gone i)
-      → r ≡ emptyIf (getD gone i false) s (getD starts i 0) (getD sizes i 0) → r ≡ cleared old (marked starts gone (i + 1))
+  -- b and k are the start and the size of entry i
+  pub marks-more : (n i b k : ℕ) (s r : List ℕ) → r ≡ emptyIf (getD gone i false) s b k → s ≡ cleared old (marked starts gone i) → b ≡ getD starts i 0 → k ≡ getD sizes i 0
+      → Entries old starts sizes n → i < n → r ≡ cleared old (marked starts gone (i + 1))
   unfolding marked markAt anyBelow emptyIf unless
-  marks-more n i s r d l e h = h ∙ rw (e, add-one i) (go (getD gone i false) refl)
+  marks-more n i b k s r h e p q d l = h ∙ rw (p, q, e, add-one i) (go (getD gone i false) refl)
     where
       go : (t : Bool) → getD gone i false ≡ t
           → emptyIf t (cleared old (marked starts gone i)) (getD starts i 0) (getD sizes i 0) ≡ cleared old (marked starts gone (suc i))
@@ -111,8 +112,8 @@ module _ (old starts sizes : List ℕ) (gone : List Bool) where
   pub marks-done : (i n : ℕ) (s : List ℕ) → s ≡ cleared old (marked starts gone i) → i ≤ n → n ≤ i → s ≡ cleared old (marked starts gone n)
   marks-done i n s h p q = let e : i ≡ n = omega arith in rw e at h
 
-  pub marks-inside : (i n : ℕ) (s : List ℕ) → Entries old starts sizes n → length s ≡ length old → i < n → getD starts i 0 * 2048 + getD sizes i 0 * 2048 ≤ length s
-  marks-inside i n s d e l = omega (arith, d .ends i l)
+  pub marks-inside : (i n b k : ℕ) (s : List ℕ) → Entries old starts sizes n → length s ≡ length old → i < n → b ≡ getD starts i 0 → k ≡ getD sizes i 0 → b * 2048 + k * 2048 ≤ length s
+  marks-inside i n b k s d e l p q = omega (arith, d .ends i l)
 
 pub ruleset marking = (marks-start, marks-more, marks-done, marks-inside)
 

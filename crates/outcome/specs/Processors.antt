@@ -1,9 +1,12 @@
 -- The board's processor list (document 01, "The store"), and what it makes of a stored update.
---   listOk       1 to 8 signatures with as many platform numbers, each at most 7
---   Listed       the processor of signature x and platform p is listed: present, in the words of demand 3
---   coversOne    the update covers some listed processor
---   keeping      the update covers a listed processor that the candidate doesn't cover
---   Keeps        the same in words; `keeps-law` joins the two
+--   platformOk      platform number i is at most 7
+--   listOk          1 to 8 signatures with as many platform numbers, each at most 7
+--   Listed          the processor of signature x and platform p is listed: present, in the words of demand 3
+--   coversListed    the update covers listed processor i
+--   coversOne       the update covers some listed processor
+--   keepsListed     the update covers listed processor i, and the candidate doesn't
+--   keeping         the update covers a listed processor that the candidate doesn't cover
+--   Keeps           the same in words; `keeps-law` joins the two
 use Prim.Native.Nat.{ℕ, _<_}
 use mathlib.Core.Path.{_≡_, refl}
 use mathlib.Core.Bool.{Bool, true, false, not, _&&_}

@@ -4,34 +4,8 @@ ghost use Prim.Native.Nat.{_+_, _*_, _≤_};
 ghost use lib.ListN.{length};
 ghost use Rattle.update.specs.Sizes.{blocksOf};
 ghost use Rattle.outcome.specs.Bytes.{outcomeBytes};
-ghost use Rattle.outcome.specs.Paste.{putAt, fillAt};
 ghost use Rattle.outcome.specs.Cleared.{cleared};
 ghost use Rattle.outcome.specs.Marks.{marked, Entries, emptyIf};
-
-// The `count` bytes from `from` on become FFh.
-pub fn fill(store: &mut [u8], from: usize, count: usize)
-    requires { ⌜ from + count ≤ length (now store) ⌝ }
-    ensures { λ _. ⌜ now (store .exit) ≡ fillAt (now (store .entry)) from count ⌝ }
-{
-    let mut i: usize = 0;
-    while i < count {
-        store[from + i] = 255;
-        i += 1;
-    }
-}
-
-// The first `t` bytes of `cand` are put at `at`.
-pub fn put(store: &mut [u8], at: usize, cand: &[u8], t: usize)
-    requires { ⌜ at + t ≤ length (now store) ⌝ }
-    requires { ⌜ t ≤ length (now cand) ⌝ }
-    ensures { λ _. ⌜ now (store .exit) ≡ putAt (now (store .entry)) at (now (cand .entry)) t ⌝ }
-{
-    let mut i: usize = 0;
-    while i < t {
-        store[at + i] = cand[i];
-        i += 1;
-    }
-}
 
 // The update of `size` blocks from `start` on is emptied, if it is marked.
 fn empty_if(gone: bool, store: &mut [u8], start: u32, size: u32)
@@ -39,15 +13,15 @@ fn empty_if(gone: bool, store: &mut [u8], start: u32, size: u32)
     ensures { λ _. ⌜ now (store .exit) ≡ emptyIf gone (now (store .entry)) start size ⌝ }
 {
     if gone {
-        fill(store, start as usize * 2048, size as usize * 2048);
+        paste::fill(store, start as usize * 2048, size as usize * 2048);
     }
 }
 
 // The marked ones of the first `count` entries are emptied.
 fn empty_marked<'a>(
     store: &mut [u8],
-    starts: &'a [u32; 32],
-    sizes: &'a [u32; 32],
+    starts: &'a [u8; 32],
+    sizes: &'a [u8; 32],
     gone: [bool; 32],
     count: usize,
 )
@@ -56,7 +30,12 @@ fn empty_marked<'a>(
 {
     let mut i: usize = 0;
     while i < count {
-        empty_if(gone[i], store, starts[i], sizes[i]);
+        empty_if(
+            gone[i],
+            store,
+            dwords::wide(starts[i]),
+            dwords::wide(sizes[i]),
+        );
         i += 1;
     }
 }
@@ -65,21 +44,21 @@ fn empty_marked<'a>(
 // behind them to the end of its last block.
 pub fn write_bytes<'a>(
     store: &mut [u8],
-    starts: &'a [u32; 32],
-    sizes: &'a [u32; 32],
+    starts: &'a [u8; 32],
+    sizes: &'a [u8; 32],
     gone: [bool; 32],
     count: usize,
     start: u32,
-    cand: &[u8],
+    candidate: &[u8],
     t: usize,
 )
     requires { ⌜ Entries (now store) (now starts) (now sizes) count ⌝ }
-    requires { ⌜ t ≤ length (now cand) ⌝ }
+    requires { ⌜ (t ≤ length (now candidate)) × (t ≤ 32768) ⌝ }
     requires { ⌜ (start + blocksOf t) * 2048 ≤ length (now store) ⌝ }
-    ensures { λ _. ⌜ now (store .exit) ≡ outcomeBytes (now (store .entry)) t (now (cand .entry)) start (marked (now (starts .entry)) gone count) ⌝ }
+    ensures { λ _. ⌜ now (store .exit) ≡ outcomeBytes (now (store .entry)) t (now (candidate .entry)) start (marked (now (starts .entry)) gone count) ⌝ }
 {
     empty_marked(store, starts, sizes, gone, count);
     let at = start as usize * 2048;
-    put(store, at, cand, t);
-    fill(store, at + t, (t + 2047) / 2048 * 2048 - t);
+    paste::put(store, at, candidate, t);
+    paste::fill(store, at + t, (t + 2047) / 2048 * 2048 - t);
 }

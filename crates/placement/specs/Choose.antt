@@ -1,4 +1,5 @@
--- The choice of a run, as the program computes it. The candidate takes k blocks; s is a start block, i the number of an update.
+-- The choice of a run (document 01, "The calls", 1: check 8 and the sentence behind check 9), over stored updates by number. How the code
+-- searches stands in Tries. The candidate takes k blocks; s is a start block, i the number of an update.
 --   touches    the run from s touches update i
 --   goes       update i is emptied if the candidate goes to s
 --   within     all blocks of update i are the run's
@@ -33,7 +34,8 @@ within h k s i = leb s (h .start i) && leb (h .start i + h .size i) (s + k)
 unfoldable pub fills : Held → ℕ → ℕ → ℕ → Bool
 fills h k s i = not (within h k s i) && goes h k s i
 
--- it would be emptied, and covers a listed processor that the candidate doesn't
+-- it would be emptied, and covers a listed processor that the candidate doesn't. For an update that doesn't share this is check 8's "covers a
+-- listed processor": it covers none of the candidate's (outcome's `unshared-keeps`). One that shares and keeps is check 7's (`torn`).
 unfoldable pub bars : Held → ℕ → ℕ → ℕ → Bool
 bars h k s i = h .keeps i && goes h k s i
 

@@ -1,4 +1,4 @@
--- Which outcomes of a write are legal.
+-- Which outcomes are legal, over stored updates by number. The demand's own definition is outcome's Legal; write's Join ties the two.
 --   Legal      an outcome may be taken
 --   emptied    how many updates it empties
 use Prim.Native.Nat.{ℕ, _+_, _<_, _≤_}

@@ -28,21 +28,9 @@ use Rattle.placement.specs.declared.Choice.the-variants.{At, Nowhere}
 use Rattle.placement.specs.Held.{Held}
 use Rattle.placement.specs.Choose.{torn}
 
--- entry i of each array
-abbrev pub startAt : Marked → ℕ → ℕ
-startAt m i = getD (m .starts) i 0
-
-abbrev pub sizeAt : Marked → ℕ → ℕ
-sizeAt m i = getD (m .sizes) i 0
-
-abbrev pub sharesAt : Marked → ℕ → Bool
-sharesAt m i = getD (m .shares) i false
-
-abbrev pub keepsAt : Marked → ℕ → Bool
-keepsAt m i = getD (m .keeps) i false
-
+-- update i is entry i of each array
 unfoldable pub held : Marked → Held
-held m = record { count = m .count; start = startAt m; size = sizeAt m; shares = sharesAt m; keeps = keepsAt m }
+held m = record { count = m .count; start = λ i. getD (m .starts) i 0; size = λ i. getD (m .sizes) i 0; shares = λ i. getD (m .shares) i false; keeps = λ i. getD (m .keeps) i false }
 
 -- lent arrays as a `Marked`
 abbrev pub marksOf : List ℕ → List ℕ → List Bool → List Bool → ℕ → Marked

@@ -15,8 +15,7 @@ use lib.Dec.{ltb}
 use borrow.Author.Tests.{lt-ltb, le-ltb}
 use Rattle.laws.specs.Count.{countBelow, count-most, count-up, count-none, count-yes, count-no}
 use Rattle.laws.specs.Orders.{le-or-lt}
-use Rattle.laws.specs.Least.{Pick, nowhere, at, better}
-use Rattle.placement.specs.declared.Marked.{Marked}
+use Rattle.laws.specs.Least.{at, better}
 use Rattle.placement.specs.declared.Choice.{Choice}
 use Rattle.placement.specs.declared.Choice.the-variants.{At, Nowhere}
 use Rattle.placement.specs.Held.{Held}

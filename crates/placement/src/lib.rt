@@ -14,8 +14,8 @@ ghost use Rattle.placement.specs.Tries.{limitOf, capped, turn};
 // The stored updates in the order of their starts: update i < count starts at a block, has a size in blocks, and two marks against the
 // candidate: it covers a processor that the candidate covers; it covers a listed processor that the candidate doesn't.
 pub struct Marked {
-    pub starts: [u32; 32],
-    pub sizes: [u32; 32],
+    pub starts: [u8; 32],
+    pub sizes: [u8; 32],
     pub shares: [bool; 32],
     pub keeps: [bool; 32],
     pub count: usize,
@@ -28,7 +28,7 @@ pub enum Choice {
 }
 
 // Does the run of `k` blocks from `s` touch the update of `size` blocks from `start`?
-fn touches(start: u32, size: u32, k: u32, s: u32) -> bool
+fn touches(start: u8, size: u8, k: u32, s: u32) -> bool
     ensures { λ r. ⌜ r ≡ ltb s (start + size) && ltb start (s + k) ⌝ }
 {
     if (s as usize) < start as usize + size as usize {
@@ -39,7 +39,7 @@ fn touches(start: u32, size: u32, k: u32, s: u32) -> bool
 }
 
 // Is the update emptied if the candidate goes to `s`?
-fn goes(start: u32, size: u32, shares: bool, k: u32, s: u32) -> bool
+fn goes(start: u8, size: u8, shares: bool, k: u32, s: u32) -> bool
     ensures { λ r. ⌜ r ≡ shares || (ltb s (start + size) && ltb start (s + k)) ⌝ }
 {
     if shares {
@@ -50,7 +50,7 @@ fn goes(start: u32, size: u32, shares: bool, k: u32, s: u32) -> bool
 }
 
 // Would the update be emptied, and must it not be?
-fn bars(start: u32, size: u32, shares: bool, keeps: bool, k: u32, s: u32) -> bool
+fn bars(start: u8, size: u8, shares: bool, keeps: bool, k: u32, s: u32) -> bool
     ensures { λ r. ⌜ r ≡ keeps && (shares || (ltb s (start + size) && ltb start (s + k))) ⌝ }
 {
     if keeps {
@@ -61,7 +61,7 @@ fn bars(start: u32, size: u32, shares: bool, keeps: bool, k: u32, s: u32) -> boo
 }
 
 // Is the update touched, and does it not share?
-fn loses(start: u32, size: u32, shares: bool, k: u32, s: u32) -> bool
+fn loses(start: u8, size: u8, shares: bool, k: u32, s: u32) -> bool
     ensures { λ r. ⌜ r ≡ not shares && (ltb s (start + size) && ltb start (s + k)) ⌝ }
 {
     if shares {
@@ -73,8 +73,8 @@ fn loses(start: u32, size: u32, shares: bool, k: u32, s: u32) -> bool
 
 // Does some update rule the start out?
 fn barred<'a>(
-    starts: &'a [u32; 32],
-    sizes: &'a [u32; 32],
+    starts: &'a [u8; 32],
+    sizes: &'a [u8; 32],
     shares: &'a [bool; 32],
     keeps: &'a [bool; 32],
     count: usize,
@@ -96,8 +96,8 @@ fn barred<'a>(
 
 // How many updates that do not share does the run touch, up to `limit`? Whether they are needed doesn't matter here.
 fn lost<'a>(
-    starts: &'a [u32; 32],
-    sizes: &'a [u32; 32],
+    starts: &'a [u8; 32],
+    sizes: &'a [u8; 32],
     shares: &'a [bool; 32],
     count: usize,
     k: u32,
@@ -135,8 +135,8 @@ fn limit(sofar: Choice) -> u32
 
 // The choice so far against a later start: taken only if it touches fewer, and is not ruled out.
 fn tried<'a>(
-    starts: &'a [u32; 32],
-    sizes: &'a [u32; 32],
+    starts: &'a [u8; 32],
+    sizes: &'a [u8; 32],
     shares: &'a [bool; 32],
     keeps: &'a [bool; 32],
     count: usize,
@@ -172,8 +172,8 @@ fn untouched(c: Choice) -> bool
 
 // The start for a run of `k` of the `n` blocks: the one that loses the fewest updates, the lowest on a tie.
 pub fn choose_run<'a>(
-    starts: &'a [u32; 32],
-    sizes: &'a [u32; 32],
+    starts: &'a [u8; 32],
+    sizes: &'a [u8; 32],
     shares: &'a [bool; 32],
     keeps: &'a [bool; 32],
     count: usize,
@@ -234,10 +234,10 @@ pub fn shared(shares: &[bool; 32], count: usize) -> u32
 }
 
 // Are all blocks of the update blocks of the run?
-fn within(start: u32, size: u32, k: u32, s: u32) -> bool
+fn within(start: u8, size: u8, k: u32, s: u32) -> bool
     ensures { λ r. ⌜ r ≡ leb s start && leb (start + size) (s + k) ⌝ }
 {
-    if s <= start {
+    if s as usize <= start as usize {
         start as usize + size as usize <= s as usize + k as usize
     } else {
         false
@@ -245,7 +245,7 @@ fn within(start: u32, size: u32, k: u32, s: u32) -> bool
 }
 
 // Is the update emptied, and are not all of its blocks the run's?
-fn fills(start: u32, size: u32, shares: bool, k: u32, s: u32) -> bool
+fn fills(start: u8, size: u8, shares: bool, k: u32, s: u32) -> bool
     ensures { λ r. ⌜ r ≡ not (leb s start && leb (start + size) (s + k)) && (shares || (ltb s (start + size) && ltb start (s + k))) ⌝ }
 {
     if within(start, size, k, s) {
@@ -258,8 +258,8 @@ fn fills(start: u32, size: u32, shares: bool, k: u32, s: u32) -> bool
 // Marks the updates that must be filled with FFh if the candidate goes to `s`: those that are emptied, but for those that the run overwrites
 // whole.
 pub fn to_fill<'a>(
-    starts: &'a [u32; 32],
-    sizes: &'a [u32; 32],
+    starts: &'a [u8; 32],
+    sizes: &'a [u8; 32],
     shares: &'a [bool; 32],
     count: usize,
     k: u32,

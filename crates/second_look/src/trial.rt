@@ -8,7 +8,7 @@ use crate::outcomes::Set;
 use calls::answer;
 use calls::answer::Answer;
 
-// What was seen of one write: whether it was as it should be, and its codes or its emptied count.
+// What was seen of one write: whether it was as it should be, and its AL or its emptied count.
 pub struct Seen {
     pub same: bool,
     pub written: bool,

@@ -14,9 +14,8 @@ use native.Mathlib.Nat.{eq-or-lt-of-le, le-of-suc-le-suc, not-suc-le-zero, add-z
 use native.Mathlib.Omega.{arith}
 use lib.ListN.{length, getD, length-append, List·getD-append}
 use lib.Seq.{getD-append-seam, getD-at}
-use lib.Dec.{leb}
 use borrow.Author.Tests.{le-leb, lt-leb}
-use Rattle.store.specs.Scan.{slotAt, sizeAt, nextSlot, begins, first, startsTo, sizesTo}
+use Rattle.store.specs.Scan.{sizeAt, nextSlot, begins, first, startsTo, sizesTo}
 
 module _ (s : List ℕ) where
   -- behind a block b where a slot of k blocks begins, the next slot begins at b + k: the blocks between are later blocks

@@ -2,28 +2,27 @@
 --   Listing      each entry is a held update, in order; each held update is an entry
 --   listing      of the directory of a valid store
 --   kind-law     the kind of a block by the directory is its kind in the store
-use Prim.Native.Nat.{ℕ, suc, _+_, _*_, _-_, _<_, _≤_}
-use mathlib.Core.Path.{_≡_, refl, sym, ap, _∙_}
+use Prim.Native.Nat.{ℕ, _+_, _-_, _<_, _≤_}
+use mathlib.Core.Path.{_≡_, refl, sym, _∙_}
 use mathlib.Core.Bool.{Bool, true, false, cond, not, _&&_, true≢false}
 use mathlib.Core.List.{List}
 use mathlib.Core.Logic.{⊎-elim}
 use native.Mathlib.Nat.{eq-or-lt-of-le}
 use native.Mathlib.Omega.{arith}
 use lib.ListN.{length, getD}
-use lib.Dec.{leb, ltb, eqb}
-use borrow.Author.Tests.{leb-true, le-leb, lt-leb, ltb-true, ltb-false, lt-ltb, le-ltb, eqb-true, eqb-false, eq-eqb, ne-eqb}
-use Rattle.laws.specs.Bools.{and-true, and-i, no-true}
-use Rattle.laws.specs.Below.{allBelow, all-at}
+use lib.Dec.{leb, ltb}
+use borrow.Author.Tests.{leb-true, le-leb, ltb-true, ltb-false, lt-ltb, eq-eqb, ne-eqb}
+use Rattle.laws.specs.Bools.{and-true, and-i}
+use Rattle.laws.specs.Below.{all-at}
 use Rattle.laws.specs.First.{firstBelow, First, first-is}
-use Rattle.laws.specs.Orders.{le-or-lt}
-use Rattle.store.specs.Blocks.{fromBlock, blockCount}
-use Rattle.store.specs.Scan.{slotSize, slotAt, sizeAt, isUpdate, isBad, nextSlot, begins, first, sound, startsTo, sizesTo, pad, listed, storeOk, directory}
+use Rattle.store.specs.Blocks.{blockCount}
+use Rattle.store.specs.Scan.{slotAt, sizeAt, isBad, begins, first, sound, startsTo, sizesTo, pad, listed, storeOk, directory}
 use Rattle.store.specs.Kind.{kindOf, kindAt, owns, ownsAt, kindIf, kindBy, kindIn}
 use Rattle.store.specs.Valid.{Valid, Owned}
 use Rattle.store.specs.SlotLaws.{ends-inside}
 use Rattle.store.specs.BlockLaws.{listed-first, first-listed, starts-increase, sizes-listed, sizes-long, later-blocks}
-use Rattle.store.specs.StoreLaws.{pad-at, directory-ok, directory-listed, directory-few}
-use Rattle.store.specs.LayoutLaws.{size-some, first-parts, home, layout-sound, owned-one}
+use Rattle.store.specs.StoreLaws.{pad-at, directory-listed, directory-few}
+use Rattle.store.specs.LayoutLaws.{size-some, first-parts, home, layout-sound}
 use Rattle.store.specs.ValidLaws.{store-valid}
 use Rattle.store.specs.declared.slot.Slot.{Slot}
 use Rattle.store.specs.declared.slot.Slot.the-variants.{Unused, Update, Bad}

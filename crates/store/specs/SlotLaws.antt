@@ -1,12 +1,12 @@
 -- Laws of slots: what an update's slot says of the bytes, how one is made, and that a slot is settled by the bytes of its own blocks.
 --   Slotted, slotted        an update's slot: a good verdict, its blocks, and that it fits
---   slot-inside             it has 1 to 16 blocks, all lent
+--   slot-inside, slot-byte  it has 1 to 16 blocks, all lent; a byte holds their number
 --   update-made             a good verdict that fits is an update's slot
 --   Single, single-facts    what a block by itself is and isn't
 --   single-filled, filled-single    an unused slot is a block of FFh, both ways
 --   update-local, update-alike      bytes that agree on its blocks have the same slot and cover the same processors
 --   ends-inside             an update that begins at block b of n ends at n or before
-use Prim.Native.Nat.{ℕ, _+_, _*_, _-_, _/_, _<_, _≤_}
+use Prim.Native.Nat.{ℕ, _+_, _*_, _-_, _<_, _≤_}
 use mathlib.Core.Path.{_≡_, refl, sym, _∙_}
 use mathlib.Core.Bool.{Bool, true, false, _&&_, true≢false}
 use mathlib.Core.List.{List}
@@ -14,16 +14,16 @@ use native.Mathlib.Omega.{arith}
 use lib.ListN.{length, getD, length-drop}
 use lib.Dec.{leb, eqb}
 use borrow.Author.Tests.{leb-true, le-leb, eqb-true}
-use Rattle.laws.specs.Bools.{and-true, and-i, and-false-r, no-true}
+use Rattle.laws.specs.Bools.{and-true, and-i, no-true}
 use Rattle.laws.specs.Below.{all-at}
 use Rattle.laws.specs.Unless.{unless}
 use Rattle.laws.specs.Same.{Same, same-less}
-use Rattle.dwords.specs.Dword.{little, dword}
-use Rattle.update.specs.Fields.{version, loaderVersion, totalSize}
+use Rattle.dwords.specs.Dword.{dword}
+use Rattle.update.specs.Fields.{version, loaderVersion}
 use Rattle.update.specs.Sizes.{blocksOf}
 use Rattle.update.specs.Verdict.{headerOk, verdict}
 use Rattle.update.specs.SizeLaws.{inside}
-use Rattle.update.specs.VerdictLaws.{Judged, judged}
+use Rattle.update.specs.VerdictLaws.{judged}
 use Rattle.update.specs.Local.{verdict-local, covers-local, Alike}
 use Rattle.update.specs.declared.verdict.Verdict.{Verdict}
 use Rattle.update.specs.declared.verdict.Verdict.the-variants.{Good, BadHeader, BadSum}
@@ -85,6 +85,10 @@ slot-inside s k slot =
     let f = fits-parts s (d .total) (d .fit) in
     let e = d .blocks in
     (omega (arith, z .0), omega (arith, z .1), omega (arith, f .0))
+
+-- a byte can hold how many blocks it has, as `search` takes it: x is what a call answered
+pub slot-byte : (s : List ℕ) (x : Slot) (k : ℕ) → x ≡ slotOf s → x ≡ Update k → k < 256
+slot-byte s x k e h = omega (arith, slot-inside s k (sym e ∙ h) .1)
 
 -- a good update's first byte is 1, not FFh
 not-unused : (s : List ℕ) → dword s 0 ≡ 1 → unused s ≡ false

@@ -6,14 +6,14 @@
 --   directory-few    it lists at most 32 updates
 use Prim.Native.Nat.{ℕ, _-_, _/_, _<_, _≤_}
 use mathlib.Core.Path.{_≡_, refl, sym, ap, _∙_}
-use mathlib.Core.Bool.{Bool, true, false, cond, not, _&&_}
-use mathlib.Core.List.{List, _++_}
+use mathlib.Core.Bool.{Bool, true, false, cond, _&&_}
+use mathlib.Core.List.{List}
 use native.Mathlib.Omega.{arith}
 use lib.ListN.{length, getD, replicate, List·getD-append}
 use Rattle.laws.specs.Bools.{and-true}
-use Rattle.laws.specs.Below.{allBelow, anyBelow, any-cong}
+use Rattle.laws.specs.Below.{allBelow, any-cong}
 use Rattle.store.specs.Blocks.{blockCount, lengthOk, length-parts}
-use Rattle.store.specs.Scan.{sound, startsTo, sizesTo, pad, badStore, listed, scanned, clashAt, clashRow, clash, apart, storeOk, directory}
+use Rattle.store.specs.Scan.{sound, startsTo, pad, badStore, listed, scanned, clashAt, clashRow, clash, apart, storeOk, directory}
 use Rattle.store.specs.BlockLaws.{few-starts}
 use Rattle.store.specs.declared.directory.Directory.{Directory}
 

@@ -3,8 +3,8 @@
 --   store-valid     from the verdict, with N and the first blocks read
 --   valid-store     to the verdict
 --   valid-apart     no two held updates share, as the Bool that computes
-use Prim.Native.Nat.{ℕ, _+_, _*_, _%_, _/_, _<_, _≤_}
-use mathlib.Core.Path.{_≡_, refl, sym, ap, _∙_}
+use Prim.Native.Nat.{ℕ, _%_, _/_, _<_, _≤_}
+use mathlib.Core.Path.{_≡_, sym, ap, _∙_}
 use mathlib.Core.Bool.{Bool, true, false, not, _&&_, true≢false}
 use mathlib.Core.List.{List}
 use mathlib.Core.Logic.{⊎-elim, _↔_}
@@ -15,11 +15,11 @@ use borrow.Author.Tests.{le-leb, not-true}
 use Rattle.laws.specs.Bools.{and-true, no-true}
 use Rattle.laws.specs.Below.{allBelow, any-fails, any-false}
 use Rattle.laws.specs.Orders.{le-or-lt}
-use Rattle.update.specs.Shares.{shares, Shares}
+use Rattle.update.specs.Shares.{shares}
 use Rattle.update.specs.ShareLaws.{shares-law}
 use Rattle.store.specs.Blocks.{fromBlock, blockCount, lengthOk, length-parts}
 use Rattle.store.specs.Scan.{first, sound, startsTo, clashAt, clashRow, clash, apart, storeOk}
-use Rattle.store.specs.Valid.{Layout, Valid, ValidStore}
+use Rattle.store.specs.Valid.{Valid, ValidStore}
 use Rattle.store.specs.BlockLaws.{listed-first, first-listed, starts-increase}
 use Rattle.store.specs.LayoutLaws.{layout-first, layout-sound, scan-layout}
 

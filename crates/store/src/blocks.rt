@@ -4,12 +4,6 @@ ghost use Prim.Native.Nat.{_+_, _≤_, _<_};
 ghost use lib.ListN.{length};
 ghost use Rattle.store.specs.Blocks.{isFF, filled, unused, fromBlock, lengthOk};
 
-fn wide(x: u8) -> u32
-    ensures { λ r. ⌜ (r ≡ x) × (r < 256) ⌝ }
-{
-    x as u32
-}
-
 fn is_ff(s: &[u8], i: usize, k: usize) -> bool
     requires { ⌜ i + k < length (now s) ⌝ }
     ensures { λ r. ⌜ r ≡ isFF (now (s .entry)) i k ⌝ }
@@ -25,7 +19,7 @@ pub fn filled(s: &[u8], i: usize, n: usize) -> bool
     let mut sum: u32 = 0;
     let mut k: usize = 0;
     while k < n {
-        sum += wide(s[i + k]);
+        sum += dwords::wide(s[i + k]);
         k += 1;
     }
     sum as usize == 255 * n
@@ -52,6 +46,13 @@ pub fn from_block(s: &[u8], b: u32) -> &[u8]
 {
     let at = b as usize * 2048;
     if at <= s.len() { &s[at..] } else { &s[..0] }
+}
+
+// The same, by a first block of a directory.
+pub fn from_start(s: &[u8], start: u8) -> &[u8]
+    ensures { λ r. ⌜ now r ≡ fromBlock (now (s .entry)) start ⌝ }
+{
+    from_block(s, dwords::wide(start))
 }
 
 // 1 to 32 whole blocks.

@@ -8,7 +8,7 @@ use update::shares;
 use update::sizes;
 
 // Do two of the updates that begin at the first `count` blocks of `starts` cover a common processor? The sizes of each are read once.
-pub fn clash(s: &[u8], starts: [u32; 32], count: usize) -> bool
+pub fn clash(s: &[u8], starts: [u8; 32], count: usize) -> bool
     requires { ⌜ count ≤ 32 ⌝ }
     ensures { λ r. ⌜ r ≡ clash (now (s .entry)) starts count ⌝ }
 {
@@ -20,14 +20,14 @@ pub fn clash(s: &[u8], starts: [u32; 32], count: usize) -> bool
     let mut found = false;
     let mut i: usize = 0;
     'scan: while i < count {
-        let a = blocks::from_block(s, starts[i]);
+        let a = blocks::from_start(s, starts[i]);
         let d = sizes::data_size(a);
         let m = covers::pair_count(a);
         data[i] = d;
         pairs[i] = m;
         let mut j: usize = 0;
         while j < i {
-            let b = blocks::from_block(s, starts[j]);
+            let b = blocks::from_start(s, starts[j]);
             if shares::shares_with(a, d, m, b, data[j], pairs[j]) {
                 found = true;
                 break 'scan;

@@ -11,8 +11,8 @@ pub struct Directory {
     // how many updates it holds
     pub count: usize,
     // the first block of each, and how many blocks each has
-    pub starts: [u32; 32],
-    pub sizes: [u32; 32],
+    pub starts: [u8; 32],
+    pub sizes: [u8; 32],
 }
 
 // No updates: the store is bad.

@@ -40,8 +40,8 @@ pub fn block_kind(d: Directory, b: u32) -> Kind
 {
     let mut i: usize = 0;
     while i < d.count {
-        let start = d.starts[i];
-        let size = d.sizes[i];
+        let start = dwords::wide(d.starts[i]);
+        let size = dwords::wide(d.sizes[i]);
         if owns(start, size, b) {
             return kind_if(start, size, b);
         }

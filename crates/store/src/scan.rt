@@ -13,8 +13,8 @@ pub fn scan(s: &[u8], n: usize) -> Directory
     requires { ⌜ n ≤ 32 ⌝ }
     ensures { λ r. ⌜ r ≡ scanned (now (s .entry)) n ⌝ }
 {
-    let mut starts = [0u32; 32];
-    let mut sizes = [0u32; 32];
+    let mut starts = [0u8; 32];
+    let mut sizes = [0u8; 32];
     let mut count: usize = 0;
     let mut next: usize = 0;
     let mut b: usize = 0;
@@ -26,8 +26,8 @@ pub fn scan(s: &[u8], n: usize) -> Directory
                     next = b + 1;
                 }
                 Slot::Update { blocks } => {
-                    starts[count] = b as u32;
-                    sizes[count] = blocks;
+                    starts[count] = b as u8;
+                    sizes[count] = blocks as u8;
                     count += 1;
                     next = b + blocks as usize;
                 }

@@ -1,6 +1,6 @@
 // What stands at a block.
 ghost use mathlib.Core.Path.{_≡_};
-ghost use Prim.Native.Nat.{_*_, _≤_};
+ghost use Prim.Native.Nat.{_*_};
 ghost use Rattle.update.specs.Sizes.{blocksOf};
 ghost use Rattle.store.specs.Slot.{fits, slotOf};
 use crate::blocks;

@@ -3,26 +3,25 @@
 --   covers-local     the same processors
 --   shares-local     two updates share exactly where two that cover the same do
 --   shares-swap      sharing is symmetric
-use Prim.Native.Nat.{ℕ, zero, suc, _+_, _*_, _-_, _%_, _/_, _^_, _<_, _≤_, min}
+use Prim.Native.Nat.{ℕ, _+_, _*_, _-_, _%_, _<_, _≤_}
 use mathlib.Core.Path.{_≡_, refl, sym, ap, _∙_}
 use mathlib.Core.Bool.{Bool, true, false, cond, _&&_, _||_}
 use mathlib.Core.List.{List}
 use native.Mathlib.Omega.{arith}
-use lib.ListN.{length, getD, take, drop, length-drop}
-use lib.Dec.{leb, eqb, eqb·suc-zero}
-use borrow.Author.Tests.{leb-true, eqb-true, eq-eqb, le-leb}
+use lib.ListN.{length, take, drop, length-drop}
+use lib.Dec.{leb, eqb}
+use borrow.Author.Tests.{eqb-true, le-leb}
 use Rattle.laws.specs.Bools.{and-true, and-i, bool-same}
-use Rattle.laws.specs.Below.{allBelow, anyBelow, all-cong, any-cong}
+use Rattle.laws.specs.Below.{allBelow, all-cong, any-cong}
 use Rattle.laws.specs.Same.{Same, same-less, same-drop, same-take}
 use Rattle.dwords.specs.Dword.{dword, dword-same}
-use Rattle.dwords.specs.Sum.{dwordSum}
-use Rattle.update.specs.Fields.{version, revision, loaderVersion, flags, dataOf, totalOf, dataSize, totalSize}
-use Rattle.update.specs.Sizes.{sizesOk, tableCount, entriesOf, entryCount, blocksOf}
-use Rattle.update.specs.Sums.{sumOf, headerSum, entryAt, entryOk, table, sumsOk}
+use Rattle.update.specs.Fields.{version, loaderVersion, flags, dataSize, totalSize}
+use Rattle.update.specs.Sizes.{sizesOk, tableCount, entriesOf, entryCount}
+use Rattle.update.specs.Sums.{headerSum, entryAt, entryOk, table, sumsOk}
 use Rattle.update.specs.Verdict.{headerOk, sizesFit, verdict}
-use Rattle.update.specs.Covers.{pairCount, signaturePos, flagsPos, signatureAt, flagsAt, platformsAt, pairCovers, coversAt, covers}
-use Rattle.update.specs.Shares.{shares, Shares}
-use Rattle.update.specs.SizeLaws.{Inside, inside, Sized}
+use Rattle.update.specs.Covers.{pairCount, signaturePos, flagsPos, signatureAt, flagsAt, platformsAt, coversAt, covers}
+use Rattle.update.specs.Shares.{shares}
+use Rattle.update.specs.SizeLaws.{Inside, inside}
 use Rattle.update.specs.PairLaws.{pair-inside, pairs-made}
 use Rattle.update.specs.ShareLaws.{shares-law}
 use Rattle.update.specs.VerdictLaws.{Judged, judged, good-made}

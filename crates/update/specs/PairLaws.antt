@@ -1,7 +1,7 @@
 -- Laws of pairs: where they lie, and when there are none.
 --   pair-inside       the two fields of each pair lie inside the lent bytes, and there are at most 65 pairs
 --   pairing           the same and the count of pairs, as `search` takes them
-use Prim.Native.Nat.{ℕ, zero, suc, _+_, _*_, _-_, _<_, _≤_}
+use Prim.Native.Nat.{ℕ, zero, suc, _+_, _<_, _≤_}
 use mathlib.Core.Path.{_≡_, refl, sym, _∙_}
 use mathlib.Core.Bool.{Bool, true, false}
 use mathlib.Core.List.{List}
@@ -14,7 +14,7 @@ use Rattle.update.specs.Fields.{dataSize, totalSize}
 use Rattle.update.specs.Sizes.{tableCount, entriesOf, entryCount}
 use Rattle.update.specs.Sums.{entryAt}
 use Rattle.update.specs.Verdict.{headerOk, sizesFit}
-use Rattle.update.specs.SizeLaws.{Inside, inside}
+use Rattle.update.specs.SizeLaws.{inside}
 use Rattle.update.specs.Covers.{pairCount, signaturePos, flagsPos}
 
 module _ (s : List ℕ) where

@@ -3,9 +3,10 @@
 --   shares-law     two updates share exactly if there is a processor that both cover
 --   common-and     two bytes of flags have a common platform exactly if their `and` isn't 0
 --   meets          the nested scan of pairs, as `search` takes it
+--   one-pair       two updates that have the header's pair alone
 use Prim.Native.Nat.{ℕ, _+_, _%_, _<_}
 use mathlib.Core.Path.{_≡_, refl, sym, _∙_}
-use mathlib.Core.Bool.{Bool, true, false, not, _&&_}
+use mathlib.Core.Bool.{Bool, true, false, not}
 use mathlib.Core.List.{List}
 use mathlib.Core.Logic.{_↔_}
 use native.Mathlib.Omega.{arith}
@@ -13,11 +14,12 @@ use lib.Dec.{ltb, eqb}
 use lib.Bits.{bitAnd, and-le-l}
 use borrow.Author.Tests.{eq-eqb, eqb-true, lt-ltb, ltb-true}
 use Rattle.laws.specs.Bools.{and-true, and-i}
-use Rattle.laws.specs.Below.{anyBelow, rows, any-stop, any-at, any-cong}
+use Rattle.laws.specs.Below.{anyBelow, rows, any-more, any-stop, any-at, any-false, any-cong}
+use Rattle.laws.specs.Count.{countBelow, count-zero}
 use Rattle.laws.specs.Loops.{scan-more, nest-stop}
 use Rattle.laws.specs.LowByte.{bit, bothBit, bit-low, common-bit}
 use Rattle.update.specs.Covers.{pairCount, signatureAt, flagsAt, platformsAt, names, pairCovers, coversAt, covers, Covers}
-use Rattle.update.specs.Shares.{bothName, common, pairShares, sharesAt, shares, Shares}
+use Rattle.update.specs.Shares.{bothName, common, pairShares, sharesAt, hasSignature, shares, Shares}
 
 names-parts : (f p : ℕ) → names f p ≡ true → (p < 8) × (bit f p ≡ true)
 unfolding names
@@ -123,4 +125,19 @@ module _ (a b : List ℕ) (i j x f : ℕ) (r : Bool) (e : x ≡ signatureAt a i)
   pub share-stop : (k l m n : ℕ) → l ≡ k → m ≡ n → i < l → j < m → r ≡ true → true ≡ anyBelow k (rows n (sharesAt a b))
   share-stop k l m n o p u v t = nest-stop (sharesAt a b) i j m n p r k l o u v share-is t
 
-pub ruleset meets = (share-more, share-stop)
+-- a pair of b with another signature doesn't share with pair i of a
+apart : (a b : List ℕ) (i j x : ℕ) → x ≡ signatureAt a i → hasSignature x b j ≡ false → sharesAt a b i j ≡ false
+unfolding hasSignature sharesAt pairShares
+apart a b i j x e q = rw (← e, q)
+
+-- a turn of the outer scan: x is the signature of pair i of a, and no pair of b has it, since c is how many do
+pub none-alike : (a b : List ℕ) (i x c : ℕ) → x ≡ signatureAt a i → c ≡ countBelow (pairCount b) (hasSignature x b) → c ≡ 0 → anyBelow i (rows (pairCount b) (sharesAt a b)) ≡ false → anyBelow (i + 1) (rows (pairCount b) (sharesAt a b)) ≡ false
+unfolding rows
+none-alike a b i x c e h z k = any-more (rows (pairCount b) (sharesAt a b)) i k (any-false (sharesAt a b i) (pairCount b) (λ j l. apart a b i j x e (count-zero (hasSignature x b) (pairCount b) j (sym h ∙ z) l)))
+
+-- two updates with one pair each
+pub one-pair : (a b : List ℕ) (m n x f : ℕ) (r : Bool) → m ≡ pairCount a → n ≡ pairCount b → m ≡ 1 → n ≡ 1 → x ≡ signatureAt a 0 → f ≡ platformsAt a 0 → r ≡ pairShares x f (signatureAt b 0) (platformsAt b 0) → r ≡ shares a b
+unfolding shares rows sharesAt anyBelow
+one-pair a b m n x f r p q u v e g h = rw (← p, ← q, u, v, ← e, ← g) h
+
+pub ruleset meets = (share-more, share-stop, none-alike)

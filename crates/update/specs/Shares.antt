@@ -22,6 +22,10 @@ pairShares x f y g = eqb x y && common f g
 unfoldable pub sharesAt : List ℕ → List ℕ → ℕ → ℕ → Bool
 sharesAt a b i j = pairShares (signatureAt a i) (platformsAt a i) (signatureAt b j) (platformsAt b j)
 
+-- pair j of s has signature x
+unfoldable pub hasSignature : ℕ → List ℕ → ℕ → Bool
+hasSignature x s j = eqb x (signatureAt s j)
+
 unfoldable pub shares : List ℕ → List ℕ → Bool
 shares a b = anyBelow (pairCount a) (rows (pairCount b) (sharesAt a b))
 

@@ -4,7 +4,7 @@
 --   judged         the record from the verdict
 use Prim.Native.Nat.{ℕ, _<_, _≤_}
 use mathlib.Core.Path.{_≡_, refl, sym, _∙_}
-use mathlib.Core.Bool.{Bool, true, false, _&&_}
+use mathlib.Core.Bool.{Bool, true, false}
 use mathlib.Core.List.{List}
 use native.Mathlib.Omega.{arith}
 use lib.ListN.{length}
@@ -16,7 +16,6 @@ use Rattle.update.specs.Fields.{version, loaderVersion, dataSize, totalS
 use Rattle.update.specs.Sizes.{sizesOk, tableCount, entryCount, blocksOf}
 use Rattle.update.specs.Sums.{sumsOk}
 use Rattle.update.specs.Verdict.{headerOk, sizesFit, verdict}
-use Rattle.update.specs.declared.verdict.Verdict.{Verdict}
 use Rattle.update.specs.declared.verdict.Verdict.the-variants.{Good, BadHeader, BadSum}
 
 module _ (s : List ℕ) where

@@ -3,7 +3,8 @@ ghost use mathlib.Core.Path.{_≡_};
 ghost use Prim.Native.Nat.{_<_};
 ghost use Rattle.update.specs.Fields.{dataSize};
 ghost use Rattle.update.specs.Covers.{pairCount, signatureAt, platformsAt};
-ghost use Rattle.update.specs.Shares.{common, pairShares, shares};
+ghost use Rattle.laws.specs.Count.{countBelow};
+ghost use Rattle.update.specs.Shares.{common, pairShares, hasSignature, shares};
 use crate::covers;
 use crate::sizes;
 
@@ -32,8 +33,32 @@ fn shares_at(x: u32, f: u8, b: &[u8], e: u32, j: u32) -> bool
     )
 }
 
+fn has_signature(x: u32, b: &[u8], e: u32, j: u32) -> bool
+    requires { ⌜ (e ≡ dataSize (now b)) × (j < pairCount (now b)) ⌝ }
+    ensures { λ r. ⌜ r ≡ hasSignature x (now (b .entry)) j ⌝ }
+{
+    x == covers::signature_at(b, e, j)
+}
+
+// How many of the `n` pairs of `b` have signature `x`. It takes them all, which the compiler makes faster than a search that stops.
+fn alike(x: u32, b: &[u8], e: u32, n: u32) -> u32
+    requires { ⌜ (e ≡ dataSize (now b)) × (n ≡ pairCount (now b)) ⌝ }
+    ensures { λ r. ⌜ r ≡ countBelow (pairCount (now (b .entry))) (hasSignature x (now (b .entry))) ⌝ }
+{
+    let mut count: u32 = 0;
+    let mut j: u32 = 0;
+    while j < n {
+        let at = j;
+        j += 1;
+        if has_signature(x, b, e, at) {
+            count += 1;
+        }
+    }
+    count
+}
+
 // Is some processor covered by both? `d` and `e` are the sizes of their data, `m` and `n` the numbers of their pairs.
-pub fn shares_with(a: &[u8], d: u32, m: u32, b: &[u8], e: u32, n: u32) -> bool
+fn pairs_share(a: &[u8], d: u32, m: u32, b: &[u8], e: u32, n: u32) -> bool
     requires { ⌜ (d ≡ dataSize (now a)) × (m ≡ pairCount (now a)) ⌝ }
     requires { ⌜ (e ≡ dataSize (now b)) × (n ≡ pairCount (now b)) ⌝ }
     ensures { λ r. ⌜ r ≡ shares (now (a .entry)) (now (b .entry)) ⌝ }
@@ -43,17 +68,40 @@ pub fn shares_with(a: &[u8], d: u32, m: u32, b: &[u8], e: u32, n: u32) -> bool
     'scan: while i < m {
         let x = covers::signature_at(a, d, i);
         let f = covers::platforms_at(a, d, i);
-        let mut j: u32 = 0;
-        while j < n {
-            if shares_at(x, f, b, e, j) {
-                found = true;
-                break 'scan;
+        if alike(x, b, e, n) == 0 {
+            i += 1;
+        } else {
+            let mut j: u32 = 0;
+            while j < n {
+                if shares_at(x, f, b, e, j) {
+                    found = true;
+                    break 'scan;
+                }
+                j += 1;
             }
-            j += 1;
+            i += 1;
         }
-        i += 1;
     }
     found
+}
+
+// The same; most updates have the header's pair alone, and two such are compared at once.
+pub fn shares_with(a: &[u8], d: u32, m: u32, b: &[u8], e: u32, n: u32) -> bool
+    requires { ⌜ (d ≡ dataSize (now a)) × (m ≡ pairCount (now a)) ⌝ }
+    requires { ⌜ (e ≡ dataSize (now b)) × (n ≡ pairCount (now b)) ⌝ }
+    ensures { λ r. ⌜ r ≡ shares (now (a .entry)) (now (b .entry)) ⌝ }
+{
+    if m == 1 {
+        if n == 1 {
+            let x = covers::signature_at(a, d, 0);
+            let f = covers::platforms_at(a, d, 0);
+            shares_at(x, f, b, e, 0)
+        } else {
+            pairs_share(a, d, m, b, e, n)
+        }
+    } else {
+        pairs_share(a, d, m, b, e, n)
+    }
 }
 
 pub fn shares(a: &[u8], b: &[u8]) -> bool

@@ -1,7 +1,6 @@
 // The sums of an update whose header and sizes are right. Each wraps on purpose.
 ghost use mathlib.Core.Path.{_≡_};
 ghost use Prim.Native.Nat.{_+_, _*_, _≤_, min};
-ghost use mathlib.Core.Bool.{Bool};
 ghost use lib.ListN.{length};
 ghost use Rattle.laws.specs.Below.{allBelow};
 ghost use Rattle.update.specs.Fields.{dataSize, totalSize};

@@ -1,6 +1,5 @@
 // The verdict on any bytes: a candidate, or what lies in the store from a block on.
 ghost use mathlib.Core.Path.{_≡_};
-ghost use lib.ListN.{length};
 ghost use Rattle.update.specs.Fields.{dataSize, totalSize};
 ghost use Rattle.update.specs.Sizes.{tableCount};
 ghost use Rattle.update.specs.Verdict.{headerOk, sizesFit, verdict};

@@ -11,7 +11,7 @@ use native.Mathlib.Omega.{arith}
 use Rattle.laws.specs.Bools.{and-true}
 use Rattle.laws.specs.Below.{anyBelow, any-at}
 use Rattle.laws.specs.Count.{count-cong}
-use Rattle.laws.specs.Least.{nowhere, at}
+use Rattle.laws.specs.Least.{nowhere}
 use Rattle.update.specs.Fields.{totalSize}
 use Rattle.update.specs.Sizes.{blocksOf}
 use Rattle.store.specs.Blocks.{blockCount}

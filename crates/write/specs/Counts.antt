@@ -1,6 +1,6 @@
 -- To count stored updates by number is to count them by first block.
 --   atEntry         the set e has number i of the list xs
---   entries-count   the members of e among the first blocks below n, listed or not
+--   entries-count   as many members of e stand in the list of first blocks below n as among these blocks
 --   number-count    an outcome empties as many by number as by first block
 use Prim.Native.Nat.{ℕ, zero, suc, _+_}
 use mathlib.Core.Path.{_≡_, refl, ap, _∙_}

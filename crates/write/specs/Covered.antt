@@ -4,7 +4,7 @@
 --   one-is, keeping-is    from right marks to the definitions
 --   marking, unmarked     the scans and the test of a mark, as `search` takes them
 use Prim.Native.Nat.{ℕ, _+_, _<_}
-use mathlib.Core.Path.{_≡_, refl, sym, ap, _∙_}
+use mathlib.Core.Path.{_≡_, sym, _∙_}
 use mathlib.Core.Bool.{Bool, true, false, not, _&&_}
 use mathlib.Core.List.{List}
 use lib.ListN.{length, getD}

@@ -1,34 +1,32 @@
 -- The marks as the code keeps them, and how they stand for those of the definitions.
---   Shared, Marks      an array of marks beside the directory's entries is right
---   marked-entry       a turn of the loop that marks, as `search` takes it
---   outdating          the scan for an update that isn't older, as `search` takes it
---   held-same          the choice of a run goes by the marks below the count, and no others
+--   Shared, Marks             arrays of marks beside the directory's entries are right
+--   shares-is, keeps-is       a turn of the loop that marks; marks-made: its end
+--   outdates-yes, outdating   the test of one update; the scan for one that isn't older, as `search` takes it
+--   Agree                     two tables of updates are the same below the count
+--   choose-same, shared-same, torn-same    then so are the choice, the number that share, and check 7
+--   held-same                 right marks agree with the definitions' table
 use Prim.Native.Nat.{ℕ, zero, suc, _+_, _-_, _<_, _≤_}
-use mathlib.Core.Path.{_≡_, refl, sym, ap, _∙_}
-use mathlib.Core.Bool.{Bool, true, false, cond, not, _&&_, _||_}
+use mathlib.Core.Path.{_≡_, refl, sym, _∙_}
+use mathlib.Core.Bool.{Bool, true, false, _&&_}
 use mathlib.Core.List.{List}
-use native.Mathlib.Omega.{arith}
 use lib.ListN.{length, getD}
 use lib.Dec.{leb}
 use Rattle.laws.specs.Below.{anyBelow, any-none, any-more, any-stop, any-cong}
 use Rattle.laws.specs.Loops.{scan-done}
 use Rattle.laws.specs.Count.{countBelow, count-cong}
-use Rattle.laws.specs.Least.{Pick, nowhere, at, better, least}
+use Rattle.laws.specs.Least.{least-cong}
 use Rattle.laws.specs.Arrays.{Filled, filled-all}
 use Rattle.update.specs.Fields.{revision}
 use Rattle.update.specs.Shares.{shares}
-use Rattle.store.specs.Blocks.{fromBlock, blockCount}
+use Rattle.store.specs.Blocks.{fromBlock}
 use Rattle.store.specs.Scan.{directory}
-use Rattle.store.specs.DirectoryLaws.{startOf, sizeOf}
-use Rattle.store.specs.StoreLaws.{directory-few}
 use Rattle.store.specs.declared.directory.Directory.{Directory}
 use Rattle.placement.specs.Held.{Held}
 use Rattle.placement.specs.Choose.{touches, goes, bars, loses, barred, lost, torn, choose}
 use Rattle.placement.specs.Marks.{held}
 use Rattle.placement.specs.declared.Marked.{Marked}
-use Rattle.outcome.specs.Processors.{coversListed, keeping}
 use Rattle.write.specs.Covered.{Covered, keepsBy, keeping-is}
-use Rattle.write.specs.Marks.{updateAt, sharesEntry, keepsEntry, heldIn, outdates, outdated}
+use Rattle.write.specs.Marks.{sharesEntry, keepsEntry, heldIn, outdates, outdated}
 
 pub record Shared (old cand starts : List ℕ) (shares : List Bool) (count : ℕ) : Type 0 where
   pub starts-are : starts ≡ directory old .starts
@@ -93,11 +91,6 @@ pub record Agree (g h : Held) : Type 0 where
   pub size : (i : ℕ) → i < g .count → g .size i ≡ h .size i
   pub shares : (i : ℕ) → i < g .count → g .shares i ≡ h .shares i
   pub keeps : (i : ℕ) → i < g .count → g .keeps i ≡ h .keeps i
-
-least-cong : (p q : ℕ → Bool) (f g : ℕ → ℕ) (k : ℕ) → ((s : ℕ) → p s ≡ q s) → ((s : ℕ) → f s ≡ g s) → least p f k ≡ least q g k
-unfolding least
-least-cong p q f g zero a b = refl
-least-cong p q f g (suc k) a b = rw (least-cong p q f g k a b, a k, b k)
 
 module _ (g h : Held) (a : Agree g h) where
   touches-same : (k s i : ℕ) → i < g .count → touches g k s i ≡ touches h k s i

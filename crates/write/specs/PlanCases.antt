@@ -3,20 +3,19 @@
 --   good-absent, good-marked   check 5
 --   plans, good-plan           checks 1 to 4
 use Prim.Native.Nat.{ℕ, _/_, _≤_}
-use mathlib.Core.Path.{_≡_, refl, sym, ap, _∙_}
-use mathlib.Core.Bool.{Bool, true, false, not}
+use mathlib.Core.Path.{_≡_, refl, sym, _∙_}
+use mathlib.Core.Bool.{Bool, true, false}
 use mathlib.Core.List.{List}
 use native.Mathlib.Omega.{arith}
 use lib.ListN.{length}
 use Rattle.laws.specs.Below.{anyBelow}
-use Rattle.laws.specs.Count.{countBelow}
 use Rattle.laws.specs.Least.{Pick, nowhere, at}
 use Rattle.laws.specs.Unless.{unless}
 use Rattle.update.specs.Verdict.{verdict}
 use Rattle.update.specs.declared.verdict.Verdict.{Verdict}
 use Rattle.update.specs.declared.verdict.Verdict.the-variants.{Good, BadHeader, BadSum}
 use Rattle.store.specs.Blocks.{blockCount}
-use Rattle.store.specs.Scan.{storeOk, directory}
+use Rattle.store.specs.Scan.{directory}
 use Rattle.store.specs.StoreLaws.{directory-ok}
 use Rattle.store.specs.ValidLaws.{store-valid}
 use Rattle.store.specs.declared.directory.Directory.{Directory}
@@ -24,7 +23,7 @@ use Rattle.placement.specs.Held.{Held}
 use Rattle.placement.specs.Choose.{torn, choose}
 use Rattle.placement.specs.Marks.{held, marksOf, bothAt, torn-both}
 use Rattle.placement.specs.declared.Marked.{Marked}
-use Rattle.outcome.specs.Processors.{listOk, coversOne}
+use Rattle.outcome.specs.Processors.{listOk}
 use Rattle.calls.specs.Answers.{refusal}
 use Rattle.calls.specs.declared.answer.Answer.{Answer}
 use Rattle.write.specs.Covered.{Covered, coveredIn, one-is}
@@ -32,7 +31,7 @@ use Rattle.write.specs.Marks.{heldIn, outdated}
 use Rattle.write.specs.MarkLaws.{Marks, Agree, held-same, choose-same, shared-same, torn-same}
 use Rattle.write.specs.Write.{placed, markedAnswer, goodAnswer, judgedAnswer, planAnswer}
 
--- a valid store has at most 32 blocks and 65,536 bytes
+-- a valid store has at most 32 blocks
 pub blocks-few : (old : List ℕ) (d : Directory) → d ≡ directory old → d .ok ≡ true → length old / 2048 ≤ 32
 blocks-few old d e h = let v = store-valid old (sym (directory-ok old d e) ∙ h) in omega (arith, v .long, v .few)
 

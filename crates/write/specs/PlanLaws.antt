@@ -1,39 +1,20 @@
 -- Laws of check 8: the choice of a run, as the code takes it.
 --   placing    by cases of the choice, as `search` takes them
---   place-few  no more are emptied than there are
-use Prim.Native.Nat.{ℕ, zero, suc, _+_, _-_, _/_, _<_, _≤_}
-use mathlib.Core.Path.{_≡_, refl, sym, ap, _∙_, subst}
-use mathlib.Core.Bool.{Bool, true, false, cond, not, _&&_}
-use mathlib.Core.List.{List}
+--   place-few  the emptied count is at most 64, so the code's sum can't overflow
+use Prim.Native.Nat.{ℕ, suc, _+_, _-_, _≤_}
+use mathlib.Core.Path.{_≡_, refl, sym, _∙_, subst}
 use native.Mathlib.Omega.{arith}
-use lib.ListN.{length}
-use Rattle.laws.specs.Below.{anyBelow}
 use Rattle.laws.specs.Count.{countBelow, count-most}
-use Rattle.laws.specs.Least.{Pick, nowhere, at, least, IsLeast, Promised, least-promised}
-use Rattle.laws.specs.Unless.{unless}
-use Rattle.update.specs.Verdict.{verdict}
-use Rattle.update.specs.declared.verdict.Verdict.{Verdict}
-use Rattle.update.specs.declared.verdict.Verdict.the-variants.{Good, BadHeader, BadSum}
-use Rattle.store.specs.Blocks.{blockCount}
-use Rattle.store.specs.Scan.{storeOk, directory}
-use Rattle.store.specs.StoreLaws.{directory-ok}
-use Rattle.store.specs.ValidLaws.{store-valid}
-use Rattle.store.specs.declared.directory.Directory.{Directory}
+use Rattle.laws.specs.Least.{Pick, nowhere, at, IsLeast, Promised, least-promised}
 use Rattle.placement.specs.Held.{Held}
-use Rattle.placement.specs.Choose.{barred, loses, lost, torn, choose}
+use Rattle.placement.specs.Choose.{barred, loses, lost, choose}
 use Rattle.placement.specs.Marks.{held, markAt, shared-marks, choiceOf}
 use Rattle.placement.specs.declared.Marked.{Marked}
 use Rattle.placement.specs.declared.Choice.{Choice}
 use Rattle.placement.specs.declared.Choice.the-variants.{At, Nowhere}
-use Rattle.outcome.specs.Processors.{listOk, coversOne}
 use Rattle.calls.specs.Answers.{refusal}
-use Rattle.calls.specs.declared.answer.Written.{Written as WrittenNumbers}
 use Rattle.calls.specs.declared.answer.Answer.{Answer}
-use Rattle.calls.specs.declared.answer.Answer.the-variants.{Presence, Written, Control, Read, Refused}
-use Rattle.write.specs.Covered.{Covered, coveredIn, one-is}
-use Rattle.write.specs.Marks.{heldIn, outdated}
-use Rattle.write.specs.MarkLaws.{Marks, Agree, held-same, choose-same, shared-same, torn-same}
-use Rattle.write.specs.Write.{written, placed, goodAnswer, judgedAnswer, planAnswer}
+use Rattle.write.specs.Write.{written, placed}
 
 choose-most : (h : Held) (n k s c : ℕ) → choose n k h ≡ at s c → c ≤ h .count
 unfolding choose lost

@@ -61,14 +61,14 @@ pub record Planned (old signatures platforms cand : List ℕ) (a : WrittenNumber
   pub good : verdict cand ≡ Good (totalSize cand) datas entries (blocksOf (totalSize cand))
   pub present : coversOne signatures platforms cand ≡ true
   pub newer : outdated old cand ≡ false
-  pub untorn : anyBelow (heldIn old signatures platforms cand .count) (torn (heldIn old signatures platforms cand)) ≡ false
   -- how many are touched and don't share
   pub touched : ℕ
   pub chosen : choose (blockCount old) (blocksOf (totalSize cand)) (heldIn old signatures platforms cand) ≡ at (a .start) touched
   pub emptied : a .emptied ≡ countBelow (heldIn old signatures platforms cand .count) (heldIn old signatures platforms cand .shares) + touched
-  -- the run lies in the store, and the candidate's bytes are lent
+  -- the run lies in the store, and the candidate's bytes are lent and few
   pub ends : a .start + blocksOf (totalSize cand) ≤ blockCount old
   pub whole : totalSize cand ≤ length cand
+  pub small : totalSize cand ≤ 32768
 
 placed-written : (h : Held) (p : Pick) (a : WrittenNumbers) → placed h p ≡ Written a
     → (c : ℕ) × (p ≡ at (a .start) c) × (a .emptied ≡ countBelow (h .count) (h .shares) + c)
@@ -103,12 +103,12 @@ module _ (old signatures platforms cand : List ℕ) (a : WrittenNumbers) (store 
         good = v;
         present = x .0;
         newer = not-true _ (y .0);
-        untorn = not-true _ (z .0);
         touched = w .0;
         chosen = w .1;
         emptied = w .2;
         ends = best .0 .legal .ends;
         whole = good-size cand t d n k v .2;
+        small = good-size cand t d n k v .1;
       }
 
   judged-written : (v : Verdict) → verdict cand ≡ v → judgedAnswer old signatures platforms cand v ≡ Written a → Planned old signatures platforms cand a

@@ -4,10 +4,10 @@
 --   planned-storable, storing     so it is after checks 1 to 8
 --   entries-for     the arrays list updates of the store
 --   stored-bytes    the bytes that are written are the outcome's
---   storable        the needs of the step, for `search`
+--   run-inside, whole-lent    the run lies in the store; the candidate's bytes are lent, and at most 32,768
 use Prim.Native.Nat.{ℕ, _+_, _*_, _/_, _<_, _≤_}
 use mathlib.Core.Path.{_≡_, refl, sym, ap, _∙_}
-use mathlib.Core.Bool.{Bool, true, false, _&&_, _||_, true≢false}
+use mathlib.Core.Bool.{Bool, true, false, _&&_, true≢false}
 use lib.Dec.{leb}
 use borrow.Author.Tests.{leb-true}
 use Rattle.laws.specs.Bools.{and-true, no-true}
@@ -19,17 +19,16 @@ use Rattle.laws.specs.Arrays.{Filled}
 use Rattle.laws.specs.Unless.{unless}
 use Rattle.update.specs.Fields.{totalSize}
 use Rattle.update.specs.Sizes.{blocksOf}
-use Rattle.store.specs.Blocks.{fromBlock, blockCount}
+use Rattle.store.specs.Blocks.{blockCount}
 use Rattle.store.specs.Scan.{sizeAt, first, storeOk, directory}
 use Rattle.store.specs.Valid.{Owned}
 use Rattle.store.specs.ValidLaws.{store-valid}
 use Rattle.store.specs.DirectoryLaws.{startOf, sizeOf, Listing, listing}
-use Rattle.store.specs.declared.directory.Directory.{Directory}
 use Rattle.placement.specs.Choose.{touches, within, fills}
 use Rattle.placement.specs.Choose as choice
 use Rattle.placement.specs.Marks.{held, marksOf}
 use Rattle.placement.specs.declared.Marked.{Marked}
-use Rattle.outcome.specs.Bytes.{emptiedAt, inRun, clearedByte, outcomeByte, outcomeBytes, tabulate}
+use Rattle.outcome.specs.Bytes.{inRun, clearedByte, outcomeByte, outcomeBytes}
 use Rattle.outcome.specs.ByteLaws.{emptied-same, at-run, outcome-length, getD-tabulate}
 use Rattle.outcome.specs.Marks.{marked, Entries, entries-of, marked-at}
 use Rattle.calls.specs.declared.answer.Answer.{Answer}
@@ -38,13 +37,14 @@ use Rattle.calls.specs.declared.answer.Answer.the-variants.{Written}
 use Rattle.write.specs.Marks.{sharesEntry}
 use Rattle.write.specs.MarkLaws.{Shared, Marks}
 use Rattle.write.specs.Write.{touched, goes, goodAnswer, planAnswer}
-use Rattle.write.specs.Planned.{Planned, plan-written}
+use Rattle.write.specs.Planned.{plan-written}
 
 pub record Storing (old cand : List ℕ) (m : Marked) (start : ℕ) : Type 0 where
   pub ok : storeOk old ≡ true
   pub shared : Shared old cand (m .starts) (m .shares) (m .count)
   pub sizes : m .sizes ≡ directory old .sizes
   pub whole : totalSize cand ≤ length cand
+  pub small : totalSize cand ≤ 32768
   pub ends : start + blocksOf (totalSize cand) ≤ blockCount old
 
 -- p is the answer of checks 1 to 8: where it is a start and a count, the step may go by them
@@ -60,7 +60,7 @@ pub planned-storable : (old signatures platforms cand : List ℕ) (p : Answer) (
 unfolding Storable
 planned-storable old signatures platforms cand p m k e f y w h =
     let x = plan-written old signatures platforms cand w (sym e ∙ sym f ∙ h) in
-    record { ok = x .store; shared = y .shared; sizes = y .sizes; whole = x .whole; ends = x .ends }
+    record { ok = x .store; shared = y .shared; sizes = y .sizes; whole = x .whole; small = x .small; ends = x .ends }
 
 -- a set of first blocks matters only at the updates that own a block outside the run
 outcome-same : (old : List ℕ) (t : ℕ) (cand : List ℕ) (start : ℕ) (e f : ℕ → Bool)
@@ -129,7 +129,5 @@ module _ (old cand : List ℕ) (m : Marked) (start : ℕ) (y : Storing old cand 
   pub run-inside : (t : ℕ) → t ≡ totalSize cand → (start + blocksOf t) * 2048 ≤ length old
   run-inside t e = rw e (omega (arith, y .ends, long))
 
-  pub whole-lent : (t : ℕ) → t ≡ totalSize cand → t ≤ length cand
-  whole-lent t e = rw e (y .whole)
-
-pub ruleset storable = (entries-for, run-inside, whole-lent, stored-bytes)
+  pub whole-lent : (t : ℕ) → t ≡ totalSize cand → (t ≤ length cand) × (t ≤ 32768)
+  whole-lent t e = rw e (y .whole, y .small)

@@ -22,7 +22,7 @@ use Rattle.update.specs.Shares.{shares}
 use Rattle.update.specs.declared.verdict.Verdict.{Verdict}
 use Rattle.update.specs.declared.verdict.Verdict.the-variants.{Good, BadHeader, BadSum}
 use Rattle.store.specs.Blocks.{fromBlock, blockCount}
-use Rattle.store.specs.Scan.{sizeAt, storeOk, directory}
+use Rattle.store.specs.Scan.{sizeAt, storeOk}
 use Rattle.placement.specs.Held.{Held}
 use Rattle.placement.specs.Choose.{torn, choose}
 use Rattle.outcome.specs.Processors.{listOk, coversOne}

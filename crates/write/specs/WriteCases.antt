@@ -1,12 +1,11 @@
 -- Check 9 and the bytes, by cases of the answer of checks 1 to 8, as `search` takes them.
 --   answered        the answers of check 9
 --   left            the bytes of the store afterwards
---   back-same       of an answer that a definition gives
---   stays-refused, stays-bytes    of a refusal
+--   back-same       check 9 of an answer of checks 1 to 8 that a definition gives
+--   stays-refused, stays-bytes    a refusal of checks 1 to 8 is the write's answer, and keeps the store
 --   meant-refused, meant-good     the whole contract of the write, of a refusal of checks 1 to 4 and of a candidate that passes them
 use Prim.Native.Nat.{ℕ}
-use mathlib.Core.Path.{_≡_, refl, sym, ap, _∙_}
-use mathlib.Core.Bool.{Bool}
+use mathlib.Core.Path.{_≡_, sym, ap, _∙_}
 use mathlib.Core.List.{List}
 use borrow.Author.Tests.{eq-eqb, ne-eqb}
 use Rattle.laws.specs.Unless.{unless}

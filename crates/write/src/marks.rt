@@ -1,15 +1,12 @@
-// The marks of the stored updates against a candidate, and which updates a run empties.
+// The marks of the stored updates against a candidate, and whether one of them is as new.
 ghost use mathlib.Core.Path.{_≡_};
 ghost use mathlib.Core.Bool.{false, _&&_};
 ghost use Prim.Native.Nat.{_≤_};
 ghost use lib.ListN.{length};
 ghost use lib.Dec.{leb};
-ghost use Rattle.laws.specs.Arrays.{Filled};
 ghost use Rattle.update.specs.Fields.{revision};
 ghost use Rattle.store.specs.Blocks.{fromBlock};
 ghost use Rattle.store.specs.Scan.{directory};
-ghost use Rattle.placement.specs.Choose.{goes};
-ghost use Rattle.placement.specs.Marks.{held};
 ghost use Rattle.write.specs.Covered.{Covered};
 ghost use Rattle.write.specs.Marks.{outdated};
 ghost use Rattle.write.specs.MarkLaws.{Shared, Marks};
@@ -43,7 +40,7 @@ pub fn mark(
     let mut keeps = [false; 32];
     let mut i: usize = 0;
     while i < d.count {
-        let u = blocks::from_block(store, d.starts[i]);
+        let u = blocks::from_start(store, d.starts[i]);
         let m = sizes::data_size(u);
         let n = covers::pair_count(u);
         shared[i] = shares::shares_with(u, m, n, candidate, data, pairs);
@@ -62,11 +59,11 @@ pub fn mark(
 }
 
 // Does the update at block `start` share, and is its revision at least `new`?
-fn outdates(store: &[u8], shares: bool, start: u32, new: u32) -> bool
+fn outdates(store: &[u8], shares: bool, start: u8, new: u32) -> bool
     ensures { λ r. ⌜ r ≡ shares && leb new (revision (fromBlock (now (store .entry)) start)) ⌝ }
 {
     if shares {
-        new <= fields::revision(blocks::from_block(store, start))
+        new <= fields::revision(blocks::from_start(store, start))
     } else {
         false
     }
@@ -75,7 +72,7 @@ fn outdates(store: &[u8], shares: bool, start: u32, new: u32) -> bool
 // Does some stored update share, with a revision that is equal or greater?
 pub fn outdated<'a>(
     store: &[u8],
-    starts: &'a [u32; 32],
+    starts: &'a [u8; 32],
     shares: &'a [bool; 32],
     count: usize,
     candidate: &[u8],

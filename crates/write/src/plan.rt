@@ -14,8 +14,8 @@ use placement::Choice;
 
 // Check 8: the run that touches the fewest non-sharing updates, lowest start on a tie.
 fn place<'a>(
-    starts: &'a [u32; 32],
-    sizes: &'a [u32; 32],
+    starts: &'a [u8; 32],
+    sizes: &'a [u8; 32],
     shares: &'a [bool; 32],
     keeps: &'a [bool; 32],
     count: usize,
@@ -38,8 +38,8 @@ fn place<'a>(
 // Checks 6 to 8, for a candidate of `k` blocks. The stored updates are lent by their starts, sizes and marks.
 pub fn plan_marked<'a>(
     store: &[u8],
-    starts: &'a [u32; 32],
-    sizes: &'a [u32; 32],
+    starts: &'a [u8; 32],
+    sizes: &'a [u8; 32],
     shares: &'a [bool; 32],
     keeps: &'a [bool; 32],
     count: usize,

@@ -25,8 +25,8 @@ use update::verdict::Verdict;
 // Empties all sharing updates, wherever they lie, and all that the run touches, and puts the candidate at the start.
 fn store_candidate<'a>(
     store: &mut [u8],
-    starts: &'a [u32; 32],
-    sizes: &'a [u32; 32],
+    starts: &'a [u8; 32],
+    sizes: &'a [u8; 32],
     shares: &'a [bool; 32],
     count: usize,
     start: u32,
@@ -52,8 +52,8 @@ fn store_candidate<'a>(
 // Check 9, and the bytes. `planned` is the answer of checks 1 to 8.
 fn finish<'a>(
     store: &mut [u8],
-    starts: &'a [u32; 32],
-    sizes: &'a [u32; 32],
+    starts: &'a [u8; 32],
+    sizes: &'a [u8; 32],
     shares: &'a [bool; 32],
     count: usize,
     planned: Answer,

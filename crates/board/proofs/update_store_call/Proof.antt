@@ -1,5 +1,5 @@
 -- `update_store_call` meets its contract: the reply of the call, laid out.
-use mathlib.Core.Path.{_≡_, ap, _∙_}
+use mathlib.Core.Path.{ap, _∙_}
 use borrow.Author.Needs.{needs}
 use Rattle.calls.specs.declared.answer.Reply.{Reply}
 use Rattle.board.specs.Words.{axOf, callWords}

@@ -1,7 +1,6 @@
 -- `update_store_load` meets its contract: the choice, laid out.
-use mathlib.Core.Path.{_≡_, ap, _∙_}
+use mathlib.Core.Path.{ap, _∙_}
 use borrow.Author.Needs.{needs}
-use Rattle.load.specs.declared.LoadChoice.{LoadChoice}
 use Rattle.board.specs.Words.{loadAx, loadWords}
 use Rattle.board.specs.WordLaws.{load-inside}
 use Rattle.board.proofs.update_store_load.Statement.{statement}

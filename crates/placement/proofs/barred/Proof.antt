@@ -29,8 +29,6 @@ barred-spec =
     (search needs)
     (search needs)
     (search needs)
-    (search needs)
-    (search needs)
     (λ c. search (needs, scan))
     (search needs)
     (search needs)

@@ -1,4 +1,4 @@
--- `placement::choose_run` meets its contract. The loop's invariant: `sofar` is the choice among the starts passed. It stops at one that touches nothing.
+-- `placement::choose_run` meets its contract. The loop's invariant: `sofar` is the choice among the starts passed. It stops at a start that touches no update but sharing ones.
 use borrow.Author.Needs.{needs}
 use mathlib.Core.Path.{_≡_}
 use Prim.Native.Nat.{suc, _≤_, _-_}

@@ -29,8 +29,6 @@ lost-spec =
     (search needs)
     (search needs)
     (search needs)
-    (search needs)
-    (search needs)
     (λ c. search (needs, losing))
     (search needs)
     (search needs)

@@ -37,7 +37,5 @@ to-fill-spec =
     (search needs)
     (search needs)
     (search needs)
-    (search needs)
-    (search needs)
     loop-again
     (λ c. search (needs, filled-all)))

@@ -1,7 +1,7 @@
 -- `calls::control::control` meets its contract: the task decides.
 use borrow.Author.Needs.{needs}
 use Rattle.laws.specs.Tests.{cases}
-use Rattle.calls.specs.Control.{controlReply, control-query}
+use Rattle.calls.specs.Control.{controlReply, controlling}
 use Rattle.calls.proofs.control.control.Statement.{statement}
 use Rattle.calls.proofs.control.control.Tie as tie
 
@@ -10,7 +10,8 @@ unfolding controlReply
 control-spec =
     tie.close
     (tie.spec
-    (λ c. search cases)
     (search needs)
-    (λ c. search control-query)
+    (λ c. search controlling)
+    (search needs)
+    (λ c. search controlling)
     (λ c. search cases))

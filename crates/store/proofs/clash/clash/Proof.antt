@@ -26,14 +26,14 @@ abbrev μ-scan : tie.MeasureT-scan
 
 loop-holds : tie.Need-loop-holds Inv-loop μ-loop Inv-scan μ-scan
 loop-holds c =
-    let b = c .before .before .from-block .ensures in
+    let b = c .before .before .from-start .ensures in
     let inv = c .before .before .before .before .scan .inv in
     (omega arith, inv .1, any-none _, more-data _ _ _ _ _ _ (omega arith) b (inv .3) (c .before .data-size .ensures), more-pairs _ _ _ _ _ _ (omega arith) b (inv .4) (c .pair-count .ensures))
 
 shares-with-requires : tie.Need-shares-with-requires Inv-loop μ-loop Inv-scan μ-scan
 shares-with-requires c κs =
     let p = c .before .before .before in
-    let b = c .from-block2 .ensures in
+    let b = c .from-start2 .ensures in
     let inv = c .before .before .loop .inv in
     ((p .before .data-size .ensures, p .pair-count .ensures), (held-data _ _ _ _ _ _ (omega arith) b (inv .3), held-pairs _ _ _ _ _ _ (omega arith) b (inv .4)))
 
@@ -41,7 +41,7 @@ loop-again : tie.Need-loop-again Inv-loop μ-loop Inv-scan μ-scan
 loop-again c =
     let d = c .before .before .before .before in
     let inv = d .loop .inv in
-    (omega arith, inv .1, clash-more _ _ _ _ _ _ _ (d .before .before .before .from-block .ensures) (c .before .before .from-block2 .ensures) (c .before .shares-with .ensures) (inv .2) (c .if2 .left), inv .3, inv .4)
+    (omega arith, inv .1, clash-more _ _ _ _ _ _ _ (d .before .before .before .from-start .ensures) (c .before .before .from-start2 .ensures) (c .before .shares-with .ensures) (inv .2) (c .if2 .left), inv .3, inv .4)
 
 scan-again : tie.Need-scan-again Inv-loop μ-loop Inv-scan μ-scan
 scan-again c =
@@ -54,7 +54,7 @@ returns-2 c = let inv = c .before .scan .inv in clash-done _ _ _ (inv .2) _ _ (i
 returns-3 : tie.Need-returns-3 Inv-loop μ-loop Inv-scan μ-scan
 returns-3 c =
     let d = c .before .before .before .before in
-    clash-stop _ _ _ _ _ _ _ (d .before .before .before .from-block .ensures) (c .before .before .from-block2 .ensures) (c .before .shares-with .ensures) _ (omega arith) (omega arith) (c .if2 .taken)
+    clash-stop _ _ _ _ _ _ _ (d .before .before .before .from-start .ensures) (c .before .before .from-start2 .ensures) (c .before .shares-with .ensures) _ (omega arith) (omega arith) (c .if2 .taken)
 
 pub clash-spec : {M : Type 1} → statement M
 clash-spec =
@@ -74,9 +74,7 @@ clash-spec =
     (search needs)
     (search needs)
     (search needs)
-    (search needs)
     loop-holds
-    (search needs)
     (search needs)
     (search needs)
     (search needs)

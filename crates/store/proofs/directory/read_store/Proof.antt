@@ -1,10 +1,8 @@
 -- `store::directory::read_store` meets its contract, by the four ways to the directory.
-use mathlib.Core.Path.{_∙_, sym, ap}
-use mathlib.Core.Bool.{true, false}
-use Prim.Native.Nat.{ℕ, _/_, _≤_}
+use mathlib.Core.Path.{_∙_, sym}
+use Prim.Native.Nat.{_/_, _≤_}
 use native.Mathlib.Omega.{arith}
 use lib.ListN.{length}
-use Rattle.store.specs.declared.directory.Directory.{Directory}
 use Rattle.store.specs.Blocks.{length-few}
 use Rattle.store.specs.StoreLaws.{scanned-few, store-bad, store-clash, store-good, store-length}
 use borrow.Author.Needs.{needs}

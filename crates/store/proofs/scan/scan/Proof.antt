@@ -1,12 +1,12 @@
 -- `store::scan::scan` meets its contract. The loop's invariant is `State`, what the reading of the blocks below b has found.
-use mathlib.Core.Path.{_≡_, refl, sym, _∙_}
-use mathlib.Core.Bool.{true, false}
+use mathlib.Core.Path.{_≡_, sym, _∙_}
 use mathlib.Core.Logic.{⊎-elim}
-use Prim.Native.Nat.{ℕ, _≤_, _+_, _-_}
+use Prim.Native.Nat.{_≤_, _-_}
 use native.Mathlib.Omega.{arith}
 use borrow.Author.Needs.{needs}
-use Rattle.laws.specs.Below.{allBelow, all-stop}
-use Rattle.store.specs.Scan.{slotAt, sound, scanned, listed, startsTo, sizesTo, pad}
+use Rattle.laws.specs.Below.{all-stop}
+use Rattle.store.specs.Scan.{slotAt, sound, scanned, listed}
+use Rattle.store.specs.SlotLaws.{slot-byte}
 use Rattle.store.specs.ScanLaws.{State, state-start, state-later, state-unused, state-update, state-bad}
 use Rattle.store.proofs.scan.scan.Statement.{statement}
 use Rattle.store.proofs.scan.scan.Tie as tie
@@ -57,8 +57,7 @@ scan-spec =
     (search needs)
     (search needs)
     (search needs)
-    (search needs)
-    (search needs)
+    (λ c. search (needs, slot-byte))
     (search needs)
     (search needs)
     (search needs)

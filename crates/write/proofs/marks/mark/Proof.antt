@@ -23,7 +23,7 @@ loop-holds c = (omega arith, directory-few _ _ (c .before .before .before .befor
 
 loop-again : tie.Need-loop-again Inv-loop μ-loop
 loop-again c =
-    let part = c .before .before .before .before .from-block .ensures in
+    let part = c .before .before .before .before .from-start .ensures in
     let at = c .before .before .before .before .before .before .before in
     let pre = at .before .before .before .before .before .before .before .pre in
     let inv = at .loop .inv in (
@@ -48,7 +48,6 @@ mark-spec =
     (search needs)
     (search needs)
     loop-holds
-    (λ c. search needs)
     (λ c. search needs)
     (λ c κs. search needs)
     (λ c κs. search needs)

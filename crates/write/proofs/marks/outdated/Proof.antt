@@ -25,7 +25,6 @@ outdated-spec =
     (λ c. search (needs, outdating))
     (λ c. search needs)
     (λ c. search needs)
-    (λ c. search needs)
     (λ c κs. search needs)
     (λ c. search (needs, outdating))
     (λ c. search needs)

@@ -1,4 +1,4 @@
--- `write::processors::keeping` meets its contract. The loop's invariant: the update keeps for no processor passed.
+-- `write::processors::keeping` meets its contract. The loop's invariant: the update covers no unmarked processor passed.
 use mathlib.Core.Path.{_≡_}
 use mathlib.Core.Bool.{false}
 use Prim.Native.Nat.{_≤_, _-_}

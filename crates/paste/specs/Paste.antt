@@ -1,16 +1,21 @@
 -- What the code does to the bytes: n bytes of one list put at a place of another, and a part filled with FFh.
 --   putAt, fillAt            the two
 --   put-long .. put-high     the length, and the bytes before, in and behind what was put
+--   put-first, put-again     what is put at the front, and what is put from there
+--   same-long                the length of n bytes that are all the same
+--   put-start .. fill-done   a loop that puts or fills byte by byte: its start, its turns and its end
+--   pasting                  these, as `search` takes them
 --   fill-long .. fill-mid    the length, and the bytes outside and in what was filled
---   pasting                  a loop that puts or fills byte by byte, as `search` takes it
 use Prim.Native.Nat.{ℕ, _+_, _-_, _<_, _≤_}
 use mathlib.Core.Path.{_≡_, refl, sym, ap, _∙_}
 use mathlib.Core.List.{List, _++_}
 use mathlib.Core.Logic.{_⊎_, inl, inr}
 use native.Mathlib.Omega.{arith}
+use native.Mathlib.Nat.{zero-add}
 use native.Mathlib.Numerals.{add-one}
-use lib.ListN.{length, getD, drop, take, set, replicate, length-replicate, getD-replicate, List·getD-append, length-set}
-use lib.Seq.{paste, paste-zero, paste-suc, length-paste, length-paste-head, length-take-le, getD-append-add, getD-take, getD-drop}
+use lib.ListN.{length, getD, drop, take, set, replicate, length-replicate, getD-replicate, List·getD-append, length-append, length-drop}
+use lib.Seq.{paste, paste-zero, paste-suc, take-at, length-paste, length-paste-head, length-take-le, getD-append-add, getD-take, getD-drop}
+use Rattle.laws.specs.Arrays.{set-long}
 
 -- the n bytes from `at` on are those of s
 unfoldable pub putAt : List ℕ → ℕ → List ℕ → ℕ → List ℕ
@@ -52,6 +57,18 @@ module _ (d : List ℕ) (at : ℕ) (s : List ℕ) (n : ℕ) (hd : at + n ≤ len
       ∙ getD-drop (at + n) d (i - (at + n)) 0
       ∙ ap (λ k. getD d k 0) f
 
+pub put-first : (d s : List ℕ) (n : ℕ) → putAt d 0 s n ≡ take n s ++ drop n d
+unfolding putAt
+put-first d s n = ap (λ k. take n s ++ drop k d) (zero-add n)
+
+-- n bytes put at the front of z, and from there at `at`
+pub put-again : (d : List ℕ) (at : ℕ) (z s : List ℕ) (n : ℕ) → n ≤ length s → putAt d at (putAt z 0 s n) n ≡ putAt d at s n
+unfolding putAt
+put-again d at z s n h = rw (take-at (take n s) (drop (0 + n) z) n (length-take-le n s h))
+
+pub same-long : (k n b : ℕ) → k ≤ n → k ≤ length (replicate n b)
+same-long k n b h = omega (arith, length-replicate n b)
+
 -- a loop's start, its turn and its end
 module _ (d : List ℕ) (at : ℕ) where
   pub put-start : (s : List ℕ) → d ≡ putAt d at s 0
@@ -79,14 +96,22 @@ module _ (d : List ℕ) (at : ℕ) where
   pub fill-done : (r : List ℕ) (i n : ℕ) → r ≡ putAt d at (replicate n 255) i → i ≤ n → n ≤ i → r ≡ fillAt d at n
   fill-done r i n h p q = put-done (replicate n 255) r i n h p q ∙ sym (fill-put n)
 
-pub set-long : (r d : List ℕ) (i b : ℕ) → length r ≡ length d → length (set r i b) ≡ length d
-set-long r d i b e = length-set r i b ∙ e
+-- a turn at the front: `set` is at i, not at 0 + i
+pub front-copy : (d s r : List ℕ) (i n : ℕ) → r ≡ putAt d 0 s i → n ≤ length r → n ≤ length s → i < n → set r i (getD s i 0) ≡ putAt d 0 s (i + 1)
+front-copy d s r i n e p q l =
+    let f : length r ≡ length (take i s) + length (drop i d) = ap length (e ∙ put-first d s i) ∙ length-append (take i s) (drop i d) in
+    let h : i < length d = omega (arith, length-take-le i s (omega arith), length-drop i d) in
+    rw (zero-add i) at (put-more d 0 s r i (getD s i 0) e refl (omega arith) (omega arith))
 
-pub ruleset pasting = (put-start, put-copy, put-done, fill-more, fill-done, set-long)
+-- the end of two loops, the first of which puts at the front of z, and the second from there at `at`
+pub put-through : (d : List ℕ) (at : ℕ) (z s p r : List ℕ) (i j n : ℕ) → p ≡ putAt z 0 s i → i ≤ n → n ≤ i → r ≡ putAt d at p j → j ≤ n → n ≤ j → n ≤ length s → r ≡ putAt d at s n
+put-through d at z s p r i j n e a b f k l h = put-done d at p r j n f k l ∙ ap (λ q. putAt d at q n) (put-done z 0 s p i n e a b) ∙ put-again d at z s n h
+
+pub ruleset pasting = (put-start, put-copy, front-copy, put-done, put-through, fill-more, fill-done, set-long)
 
 module _ (d : List ℕ) (at n : ℕ) (hd : at + n ≤ length d) where
   ones-long : n ≤ length (replicate {A = ℕ} n 255)
-  ones-long = omega (arith, length-replicate {A = ℕ} n 255)
+  ones-long = same-long n n 255 (omega arith)
 
   pub fill-long : length (fillAt d at n) ≡ length d
   fill-long = rw (fill-put d at n) (put-long d at (replicate n 255) n hd ones-long)

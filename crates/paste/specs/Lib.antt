@@ -1,0 +1,2 @@
+-- How the bytes are moved.
+pub mod Paste
