@@ -1,6 +1,6 @@
 -- Laws of the answer words.
---   chosen         a valid update begins at a chosen start
---   load-inside    the chosen update begins below block 32
+--   Choice, chosen    a valid update begins at a chosen start
+--   Inside, load-inside, load-small    the chosen update begins below block 32
 --   load-part      the offset and the number of the words name a part of the store, and it is the chosen data
 --   rowOf          the words of all cases but presence
 --   wording, load-wording    the words of each case, as `search` takes them
@@ -13,15 +13,15 @@ use lib.ListN.{length, take, drop, length-drop}
 use lib.Seq.{drop-drop}
 use lib.Dec.{leb, ltb, eqb}
 use borrow.Author.Tests.{ltb-true}
-use Rattle.laws.specs.Bools.{and-true}
+use Rattle.laws.specs.Bools.{and-parts}
 use Rattle.laws.specs.First.{first-is}
 use Rattle.laws.specs.Unless.{unless}
 use Rattle.update.specs.Fields.{revision, dataSize}
 use Rattle.store.specs.Blocks.{fromBlock, blockCount}
-use Rattle.update.specs.Covers.{covers}
-use Rattle.update.specs.VerdictLaws.{judged}
+use Rattle.coverage.specs.Covers.{covers}
+use Rattle.update.specs.VerdictLaws.{judged, good-size}
 use Rattle.store.specs.Scan.{slotAt, first, storeOk}
-use Rattle.store.specs.SlotLaws.{good-size, slotted}
+use Rattle.store.specs.SlotLaws.{slotted}
 use Rattle.store.specs.ValidLaws.{store-valid}
 use Rattle.calls.specs.declared.answer.Presence.{Presence as PresenceNumbers}
 use Rattle.calls.specs.declared.answer.Written.{Written as WrittenNumbers}
@@ -60,7 +60,7 @@ chosen loading s x p b r e = go (storeOk s) refl (leb p 7) loading e
     go true k true false q = absurd (let z : _≡_ {A = ℕ} 0 1 = cc in omega arith)
     go true k true true q =
         let y = chosen-at s (holder s x p) b r (ltb (holder s x p) (blockCount s)) refl (sym q) in
-        let h = and-true (first s (holder s x p)) (covers (fromBlock s (holder s x p)) x p) (first-is (blockCount s) (holds s x p) .passes (y .1)) in
+        let h = and-parts (first s (holder s x p)) (covers (fromBlock s (holder s x p)) x p) (first-is (blockCount s) (holds s x p) .passes (y .1)) in
         rw (← y .0) (record { ok = k; below = y .1; begun = h .0 })
 
 pub load-inside : (c : LoadChoice) (loading : Bool) (s : List ℕ) (x p : ℕ) → c ≡ loadChoice loading s x p → Inside c
@@ -76,8 +76,8 @@ load-part loading s x p b r e =
     let v = store-valid s (y .ok) in
     let h = v .layout .held b (y .below) (y .begun) in
     let z = slotted (fromBlock s b) (h .0) (h .1) in
-    let g = good-size (fromBlock s b) (z .total) (z .datas) (z .entries) (h .0) (z .good) in
-    let d = judged (fromBlock s b) (z .total) (z .datas) (z .entries) (h .0) (z .good) .data in
+    let g = good-size (fromBlock s b) (z .total) (z .data) (z .entries) (h .0) (z .good) in
+    let d = judged (fromBlock s b) (z .total) (z .data) (z .entries) (h .0) (z .good) .data in
     let l = length-drop (b * 2048) s in
     (omega (arith, v .long, y .below), rw (← e) (ap (take (dataSize (fromBlock s b))) (sym (drop-drop 48 (b * 2048) s))))
 

@@ -4,6 +4,7 @@
 --   axOf          AH * 256 + AL
 --   answerWords   AH, AL, carry, the loading state after the call, the case, and the case's numbers
 --   callWords     those of a reply
+--   loadAh, loadAl, loadAx    AH, AL and the image of AX of a load choice
 --   loadCase      0 nothing, 1 chosen, 2 refused
 --   loadNumbers   the start block, the revision, the offset of the data bytes in the store and their number; all 0 where nothing is chosen
 --   loadWords     AH, AL, carry, the loading state passed in, the case, and these numbers

@@ -1,5 +1,5 @@
 // The board's C interface: the proved calls, and their answers laid out in 16 words.
-pub mod words;
+mod words;
 
 ghost use mathlib.Core.Path.{_≡_};
 ghost use lib.ListN.{length};

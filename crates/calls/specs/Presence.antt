@@ -1,6 +1,8 @@
 -- Sub-function 0, presence (document 01, "The calls"): bad store, else the ASCII bytes INTE and LPEP, loader version 1, N.
 --   present           the answer, for N blocks
 --   presenceAnswer    the answer of the call
+--   presenting        its cases, as `search` takes them
+--   store-small       a valid store has at most 65,536 bytes
 use Prim.Native.Nat.{ℕ, _/_, _≤_}
 use mathlib.Core.Path.{_≡_, sym, _∙_}
 use mathlib.Core.Bool.{true, false}

@@ -14,7 +14,7 @@ use Rattle.paste.specs.Paste.{putAt, put-first}
 use Rattle.store.specs.Blocks.{blockCount, fromBlock}
 use Rattle.store.specs.Scan.{slotAt, begins, storeOk, directory}
 use Rattle.store.specs.Kind.{kindOf, kindAt, kindIn}
-use Rattle.store.specs.SlotLaws.{slot-inside, single-filled}
+use Rattle.store.specs.SlotLaws.{slot-inside, unused-filled}
 use Rattle.store.specs.StoreLaws.{directory-ok}
 use Rattle.store.specs.DirectoryLaws.{kind-law}
 use Rattle.store.specs.declared.directory.Directory.{Directory}
@@ -87,7 +87,7 @@ module _ (s : List ℕ) (b m : ℕ) where
 
   kind-there : (t : Bool) (x : Slot) → slotAt s b ≡ x → (blocksRead (readKind (kindOf t x) m) * 2048 ≤ length (fromBlock s b)) × (blocksRead (readKind (kindOf t x) m) ≤ 16)
   unfolding readKind slotAt
-  kind-there true Unused q = (omega (arith, blocks-few 1, single-filled (fromBlock s b) q .0), omega (arith, blocks-few 1))
+  kind-there true Unused q = (omega (arith, blocks-few 1, unused-filled (fromBlock s b) q .0), omega (arith, blocks-few 1))
   kind-there true (Update k) q = let z = slot-inside (fromBlock s b) k q in (omega (arith, blocks-few k, z .2), omega (arith, blocks-few k, z .1))
   kind-there true Bad q = (omega arith, omega arith)
   kind-there false x q = (omega arith, omega arith)

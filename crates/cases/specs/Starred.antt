@@ -5,13 +5,12 @@
 --   starred    it holds
 use Prim.Native.Nat.{ℕ, _+_, _*_, _%_, _/_}
 use mathlib.Core.Path.{_≡_, refl}
-use mathlib.Core.Bool.{Bool, true, false, _&&_}
+use mathlib.Core.Bool.{Bool, true, false, _&&_, and-false}
 use mathlib.Core.List.{List, [], _∷_, _++_}
 use native.Mathlib.Omega.{arith}
-use lib.Dec.{leb}
+use lib.Dec.{leb, eqb}
 use lib.ListN.{length, getD, replicate}
 use borrow.Author.Tests.{ne-eqb}
-use Rattle.laws.specs.Bools.{and-false-r}
 use Rattle.laws.specs.Below.{allBelow, anyBelow}
 use Rattle.laws.specs.Count.{countBelow}
 use Rattle.laws.specs.Least.{least}
@@ -23,7 +22,7 @@ use Rattle.update.specs.Fields.{dataOf, totalOf, dataSize, totalSize}
 use Rattle.update.specs.Sizes.{sizesOk, tableCount, entriesOf, entryCount, blocksOf}
 use Rattle.update.specs.Sums.{sumOf, headerSum, entryAt, entryOk, table, sumsOk}
 use Rattle.update.specs.Verdict.{headerOk, sizesFit, verdict}
-use Rattle.update.specs.Covers.{pairCount, signaturePos, flagsPos, signatureAt, flagsAt, platformsAt, names, pairCovers, coversAt, covers}
+use Rattle.coverage.specs.Covers.{pairCount, signaturePos, flagsPos, signatureAt, flagsAt, platformsAt, names, pairCovers, coversAt, covers}
 use Rattle.placement.specs.Held.{Held}
 use Rattle.placement.specs.Choose.{touches, goes, bars, loses, barred, lost, choose}
 use Rattle.calls.specs.Answers.{refusal}
@@ -74,7 +73,7 @@ pub record Starred : Type 0 where
   pub d-1200-t-2048-n-65 : sizesOk 1200 2048 65 ≡ false
   pub d-964-t-1024 : (n : ℕ) → sizesOk 964 1024 n ≡ false
   pub d-32720-t-32768 : (n : ℕ) → (sizesOk 32720 32768 n ≡ true) × (blocksOf 32768 ≡ 16)
-  pub t-33792 : (n : ℕ) → sizesOk 33744 33792 n ≡ false
+  pub t-33792 : (d n : ℕ) → sizesOk d 33792 n ≡ false
   pub stale-then-three-unused : answer 4 2 stale-first ≡ written 1 0
   pub stale-of-two-stale-of-one-unused : answer 4 2 two-stale ≡ written 0 1
   pub needed-stale-needed-stale : answer 4 2 alternating ≡ refusal 0x93 5
@@ -93,9 +92,9 @@ starred =
       d-1968-t-2048-n-1 = refl;
       d-1212-t-2048-n-64 = refl;
       d-1200-t-2048-n-65 = refl;
-      d-964-t-1024 = λ n. rw (ne-eqb 1024 (48 + 964 + 20 + 12 * n) (λ e. omega arith)) (and-false-r (leb 1 n && leb n 64));
+      d-964-t-1024 = λ n. rw (ne-eqb 1024 (48 + 964 + 20 + 12 * n) (λ e. omega arith)) (and-false (leb 1 n && leb n 64));
       d-32720-t-32768 = λ n. (refl, refl);
-      t-33792 = λ n. refl;
+      t-33792 = λ d n. rw (and-false (eqb (d % 4) 0 && true));
       stale-then-three-unused = refl;
       stale-of-two-stale-of-one-unused = refl;
       needed-stale-needed-stale = refl;

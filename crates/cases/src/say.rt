@@ -47,18 +47,18 @@ fn answer(yes: bool) {
 
 pub fn covers(label: &[u8], s: &[u8], signature: u32, platform: u32) {
     text(label);
-    answer(update::covers::covers(s, signature, platform));
+    answer(coverage::covers::covers(s, signature, platform));
 }
 
 pub fn shares(label: &[u8], a: &[u8], b: &[u8]) {
     text(label);
-    answer(update::shares::shares(a, b));
+    answer(coverage::shares::shares(a, b));
 }
 
 pub fn platforms(label: &[u8], s: &[u8]) {
     text(label);
-    number(b": platforms ", update::platforms::platform_count(s));
-    number(b", lowest ", update::platforms::lowest_platform(s));
+    number(b": platforms ", coverage::platforms::platform_count(s));
+    number(b", lowest ", coverage::platforms::lowest_platform(s));
     text(b"\n");
 }
 

@@ -1,5 +1,6 @@
 -- "Function and sub-function are judged first" (document 01, "The calls"): the answer, the loading state, and each byte of store and
 -- destination, for every input.
+--   replied            an answer, with the loading state as it was
 --   unknown            NOT_IMPLEMENTED, and the loading state as it was
 --   callReply          the answer and the loading state
 --   callStore          the store afterwards: only a write changes it

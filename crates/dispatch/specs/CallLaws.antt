@@ -1,5 +1,6 @@
 -- The cases of a call, each from what the tests and the called function say.
---   Called      the reply, the store and the destination afterwards are those of the definitions
+--   Called                            the reply, the store and the destination afterwards are those of the definitions
+--   other-function .. other-sub       so they are: an unknown function, the four sub-functions, an unknown sub-function
 use Prim.Native.Nat.{ℕ}
 use mathlib.Core.Path.{_≡_, refl}
 use mathlib.Core.Bool.{Bool}
@@ -30,21 +31,18 @@ module _ (function sub task block : ℕ) (loading : Bool) (store signatures plat
     unfolding callReply callStore callDestination unless
     presence-called a h e = rw (eq-eqb function 0xD042 f, h) (rw e refl, (refl, refl))
 
-    module _ (n0 : sub ≡ 0 → ⊥) where
-      pub write-called : (a : Answer) (s : List ℕ) → sub ≡ 1 → a ≡ writeAnswer store signatures platforms cand back → s ≡ writeBytes store signatures platforms cand back → Called (replied loading a) s destination
-      unfolding callReply callStore callDestination unless
-      write-called a s h e g = rw (eq-eqb function 0xD042 f, h) (rw e refl, (g, refl))
+    pub write-called : (a : Answer) (s : List ℕ) → sub ≡ 1 → a ≡ writeAnswer store signatures platforms cand back → s ≡ writeBytes store signatures platforms cand back → Called (replied loading a) s destination
+    unfolding callReply callStore callDestination unless
+    write-called a s h e g = rw (eq-eqb function 0xD042 f, h) (rw e refl, (g, refl))
 
-      module _ (n1 : sub ≡ 1 → ⊥) where
-        pub control-called : (r : Reply) → sub ≡ 2 → r ≡ controlReply task loading → Called r store destination
-        unfolding callReply callStore callDestination unless
-        control-called r h e = rw (eq-eqb function 0xD042 f, h) (e, (refl, refl))
+    pub control-called : (r : Reply) → sub ≡ 2 → r ≡ controlReply task loading → Called r store destination
+    unfolding callReply callStore callDestination unless
+    control-called r h e = rw (eq-eqb function 0xD042 f, h) (e, (refl, refl))
 
-        module _ (n2 : sub ≡ 2 → ⊥) where
-          pub read-called : (a : Answer) (d : List ℕ) → sub ≡ 3 → a ≡ readAnswer store block (length destination) → d ≡ readBytes store block destination → Called (replied loading a) store d
-          unfolding callReply callStore callDestination unless
-          read-called a d h e g = rw (eq-eqb function 0xD042 f, h) (rw e refl, (refl, g))
+    pub read-called : (a : Answer) (d : List ℕ) → sub ≡ 3 → a ≡ readAnswer store block (length destination) → d ≡ readBytes store block destination → Called (replied loading a) store d
+    unfolding callReply callStore callDestination unless
+    read-called a d h e g = rw (eq-eqb function 0xD042 f, h) (rw e refl, (refl, g))
 
-          pub other-sub : (r : Reply) → (sub ≡ 3 → ⊥) → r ≡ unknown loading → Called r store destination
-          unfolding callReply callStore callDestination unless
-          other-sub r n3 e = rw (eq-eqb function 0xD042 f, ne-eqb sub 0 n0, ne-eqb sub 1 n1, ne-eqb sub 2 n2, ne-eqb sub 3 n3) (e, (refl, refl))
+    pub other-sub : (r : Reply) → (sub ≡ 0 → ⊥) → (sub ≡ 1 → ⊥) → (sub ≡ 2 → ⊥) → (sub ≡ 3 → ⊥) → r ≡ unknown loading → Called r store destination
+    unfolding callReply callStore callDestination unless
+    other-sub r n0 n1 n2 n3 e = rw (eq-eqb function 0xD042 f, ne-eqb sub 0 n0, ne-eqb sub 1 n1, ne-eqb sub 2 n2, ne-eqb sub 3 n3) (e, (refl, refl))

@@ -85,7 +85,3 @@ total-append (suc n) (x ∷ y ∷ z ∷ w ∷ a) b e = let h = total-append n a 
 pub sum-append : (n : ℕ) (a b : List ℕ) → length a ≡ 4 * n → dwordSum (a ++ b) ≡ (dwordSum a + dwordSum b) % 2 ^ 32
 unfolding dwordSum
 sum-append n a b e = let h = total-append n a b e in omega arith
-
-pub sum-nil : dwordSum [] ≡ 0
-unfolding dwordSum dwordsOf total
-sum-nil = refl

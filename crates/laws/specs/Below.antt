@@ -10,12 +10,12 @@
 --   any-cong               two tests that agree below n
 use Prim.Native.Nat.{ℕ, zero, suc, _+_, _<_}
 use mathlib.Core.Path.{_≡_, refl, sym, _∙_}
-use mathlib.Core.Bool.{Bool, true, false, _&&_, _||_, true≢false}
+use mathlib.Core.Bool.{Bool, true, false, _&&_, _||_, true≢false, and-false, or-true}
 use mathlib.Core.Logic.{⊎-elim}
 use native.Mathlib.Nat.{eq-or-lt-of-le, le-of-suc-le-suc, not-suc-le-zero}
 use native.Mathlib.Numerals.{add-one}
 use native.Mathlib.Omega.{arith}
-use Rattle.laws.specs.Bools.{and-true, and-false-r, or-true-r, no-true}
+use Rattle.laws.specs.Bools.{and-parts, no-true}
 
 -- p holds of each number below n
 unfoldable pub allBelow : ℕ → (ℕ → Bool) → Bool
@@ -44,7 +44,7 @@ module _ (p : ℕ → Bool) where
   unfolding allBelow
   all-stop zero k l e = absurd (not-suc-le-zero l)
   all-stop (suc n) k l e =
-      ⊎-elim (λ q. rw (← q, e) (and-false-r (allBelow k p)))
+      ⊎-elim (λ q. rw (← q, e) (and-false (allBelow k p)))
       (λ m. rw (all-stop n k m e))
       (eq-or-lt-of-le (le-of-suc-le-suc l))
 
@@ -52,7 +52,7 @@ module _ (p : ℕ → Bool) where
   unfolding allBelow
   all-at zero k h l = absurd (not-suc-le-zero l)
   all-at (suc n) k h l =
-      let ab = and-true (allBelow n p) (p n) h in
+      let ab = and-parts (allBelow n p) (p n) h in
       ⊎-elim (λ q. rw q (ab .1))
       (λ m. all-at n k (ab .0) m)
       (eq-or-lt-of-le (le-of-suc-le-suc l))
@@ -74,7 +74,7 @@ module _ (p : ℕ → Bool) where
   unfolding anyBelow
   any-stop zero k l e = absurd (not-suc-le-zero l)
   any-stop (suc n) k l e =
-      ⊎-elim (λ q. rw (← q, e) (or-true-r (anyBelow k p)))
+      ⊎-elim (λ q. rw (← q, e) (or-true (anyBelow k p)))
       (λ m. rw (any-stop n k m e))
       (eq-or-lt-of-le (le-of-suc-le-suc l))
 

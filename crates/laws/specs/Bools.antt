@@ -1,28 +1,18 @@
 -- Facts of `&&`, `||` and of a Bool that can't be one of the two.
---   and-true      both sides of a true `&&`
---   and-i         a true `&&` from both sides
---   and-false-r   `&&` with false on the right
---   or-true-r     `||` with true on the right
+--   and-parts     both sides of a true `&&`
+--   and-made      a true `&&` from both sides
 --   no-true       not true is false
 --   no-false      not false is true
 --   bool-same     two Bools that imply each other are equal
 use mathlib.Core.Path.{_≡_, refl, sym}
-use mathlib.Core.Bool.{Bool, true, false, _&&_, _||_, true≢false}
+use mathlib.Core.Bool.{Bool, true, false, _&&_, true≢false}
 
-pub and-true : (a b : Bool) → a && b ≡ true → (a ≡ true) × (b ≡ true)
-and-true true b h = (refl, h)
-and-true false b h = absurd (true≢false (sym h))
+pub and-parts : (a b : Bool) → a && b ≡ true → (a ≡ true) × (b ≡ true)
+and-parts true b h = (refl, h)
+and-parts false b h = absurd (true≢false (sym h))
 
-pub and-i : {a b : Bool} → a ≡ true → b ≡ true → a && b ≡ true
-and-i {a} {b} h k = rw (h, k)
-
-pub and-false-r : (a : Bool) → a && false ≡ false
-and-false-r true = refl
-and-false-r false = refl
-
-pub or-true-r : (a : Bool) → a || true ≡ true
-or-true-r true = refl
-or-true-r false = refl
+pub and-made : {a b : Bool} → a ≡ true → b ≡ true → a && b ≡ true
+and-made {a} {b} h k = rw (h, k)
 
 pub no-true : (a : Bool) → (a ≡ true → ⊥) → a ≡ false
 no-true true h = absurd (h refl)

@@ -11,7 +11,7 @@ use lib.Dec.{eqb}
 use lib.Pow.{mod-pow-add}
 use lib.Bits.{bitAnd, and-step, and-shr}
 use borrow.Author.Tests.{eqb-true, eqb-false}
-use Rattle.laws.specs.Bools.{and-true, no-true, no-false}
+use Rattle.laws.specs.Bools.{and-parts, no-true, no-false}
 use Rattle.laws.specs.Below.{anyBelow, any-fails, any-false}
 
 unfoldable pub bit : ℕ → ℕ → Bool
@@ -71,7 +71,7 @@ module _ (f g : ℕ) where
   both-and : (k : ℕ) → bothBit f g k ≡ true → bitAnd f g / 2 ^ k % 2 ≡ 1
   unfolding bothBit bit
   both-and k e =
-      let h = and-true (eqb (f / 2 ^ k % 2) 1) (eqb (g / 2 ^ k % 2) 1) e in
+      let h = and-parts (eqb (f / 2 ^ k % 2) 1) (eqb (g / 2 ^ k % 2) 1) e in
       let a : f / 2 ^ k % 2 ≡ 1 = eqb-true _ _ (h .0) in
       let b : g / 2 ^ k % 2 ≡ 1 = eqb-true _ _ (h .1) in
       and-bit f g k ∙ rw (a, b)

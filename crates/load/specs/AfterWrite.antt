@@ -6,7 +6,7 @@ use mathlib.Core.Path.{_≡_}
 use mathlib.Core.Bool.{true, false}
 use mathlib.Core.List.{List}
 use Rattle.update.specs.Fields.{revision}
-use Rattle.update.specs.Covers.{covers}
+use Rattle.coverage.specs.Covers.{covers}
 use Rattle.outcome.specs.Processors.{Listed}
 use Rattle.view.specs.View.{dataPart}
 use Rattle.load.specs.Load.{loadChoice, chosenData}

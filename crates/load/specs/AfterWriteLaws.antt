@@ -10,29 +10,29 @@
 --   load-kept         the second
 --   loads-after       both, as the record
 --   load-refused      a refused write leaves the store, and with it every choice, as it was
-use Prim.Native.Nat.{ℕ, _+_, _*_, _<_, _≤_}
+use Prim.Native.Nat.{ℕ, _*_, _<_, _≤_}
 use mathlib.Core.Path.{_≡_, refl, sym, ap, _∙_}
-use mathlib.Core.Bool.{Bool, true, false, _&&_, _||_, true≢false}
+use mathlib.Core.Bool.{Bool, true, false, _&&_, _||_, true≢false, or-true}
 use mathlib.Core.List.{List}
 use native.Mathlib.Omega.{arith}
-use lib.ListN.{length, getD, drop, length-drop}
+use lib.ListN.{length, getD}
 use lib.Dec.{leb, eqb}
 use borrow.Author.Tests.{lt-ltb, le-ltb, le-leb, leb-true, eqb-true, eq-eqb}
-use Rattle.laws.specs.Bools.{and-true, and-i, or-true-r, no-true}
+use Rattle.laws.specs.Bools.{and-parts, and-made, no-true}
 use Rattle.laws.specs.Below.{allBelow, all-at, anyBelow, any-at, any-fails}
-use Rattle.laws.specs.Same.{Same, same-less, same-drop, same-take}
+use Rattle.laws.specs.Same.{same-less}
 use Rattle.laws.specs.Unless.{unless}
-use Rattle.update.specs.Fields.{revision, dataSize, totalSize}
+use Rattle.update.specs.Fields.{revision, totalSize}
 use Rattle.update.specs.Sizes.{blocksOf}
 use Rattle.update.specs.Verdict.{verdict}
-use Rattle.update.specs.VerdictLaws.{judged}
-use Rattle.update.specs.Covers.{covers}
-use Rattle.update.specs.ShareLaws.{covers-platform}
-use Rattle.update.specs.Local.{field-local, data-local}
+use Rattle.update.specs.VerdictLaws.{good-size, good-blocks}
+use Rattle.coverage.specs.Covers.{covers}
+use Rattle.coverage.specs.ShareLaws.{covers-platform}
+use Rattle.update.specs.Local.{revision-local}
 use Rattle.update.specs.declared.verdict.Verdict.the-variants.{Good}
 use Rattle.store.specs.Blocks.{fromBlock, blockCount}
 use Rattle.store.specs.Scan.{slotAt, first, storeOk}
-use Rattle.store.specs.SlotLaws.{good-size, slotted, slot-inside}
+use Rattle.store.specs.SlotLaws.{slotted, slot-inside}
 use Rattle.outcome.specs.Processors.{platformOk, listOk, Listed}
 use Rattle.outcome.specs.Legal.{Legal}
 use Rattle.outcome.specs.After.{kept, after, After}
@@ -42,30 +42,15 @@ use Rattle.calls.specs.declared.answer.Written.{Written as WrittenNumbers}
 use Rattle.calls.specs.declared.answer.Refused.{Refused as RefusedNumbers}
 use Rattle.calls.specs.declared.answer.Answer.the-variants as answers
 use Rattle.write.specs.Write.{goes, bytesAfter, writeAnswer, writeBytes}
-use Rattle.write.specs.Planned.{good-blocks, Planned, plan-written}
+use Rattle.write.specs.Planned.{Planned, plan-written}
 use Rattle.write.specs.Chosen.{planned-best}
 use Rattle.write.specs.Answered.{answer-plan}
 use Rattle.view.specs.View.{dataPart}
+use Rattle.view.specs.ViewLaws.{part-local}
 use Rattle.load.specs.Load.{holds, chosenAt, found, loadChoice, chosenData}
 use Rattle.load.specs.LoadLaws.{holder-one, holder-none}
 use Rattle.load.specs.AfterWrite.{SameLoad, LoadsAfter}
 use Rattle.load.specs.declared.LoadChoice.the-variants.{Nothing, Chosen}
-
--- r has the T bytes of the update s
-module _ (s r : List ℕ) (t d n k : ℕ) (good : verdict s ≡ Good t d n k) (same : Same s r t) (long : t ≤ length r) where
-  pub part-local : dataPart s ≡ dataPart r
-  unfolding dataPart
-  part-local =
-      let z = good-size s t d n k good in
-      let e : d ≡ dataSize s = judged s t d n k good .«data» in
-      let a = length-drop 48 s in
-      let b = length-drop 48 r in
-      rw (← data-local s r t d n k good same long)
-      (same-take (drop 48 s) (drop 48 r) (dataSize s) (omega (arith, z .2, z .3)) (omega (arith, z .3))
-      (same-drop s r (dataSize s) 48 (same-less s r t (48 + dataSize s) same (omega (arith, z .3)))))
-
-  pub revision-local : revision s ≡ revision r
-  revision-local = field-local s r t d n k good same long 4 (omega arith)
 
 module _ (s : List ℕ) (ok : storeOk s ≡ true) (x p : ℕ) (l : p ≤ 7) where
   pub choice-one : (b : ℕ) → b < blockCount s → first s b ≡ true → covers (fromBlock s b) x p ≡ true → loadChoice true s x p ≡ Chosen b (revision (fromBlock s b))
@@ -82,9 +67,9 @@ listed-platform signatures platforms x p ok w =
     let long = eqb (length signatures) (length platforms) in
     let some = leb 1 (length signatures) in
     let few = leb (length signatures) 8 in
-    let a = and-true (long && some && few) (allBelow (length platforms) (platformOk platforms)) ok in
-    let b = and-true (long && some) few (a .0) in
-    let c = and-true long some (b .0) in
+    let a = and-parts (long && some && few) (allBelow (length platforms) (platformOk platforms)) ok in
+    let b = and-parts (long && some) few (a .0) in
+    let c = and-parts long some (b .0) in
     let e = eqb-true (length signatures) (length platforms) (c .0) in
     let q = leb-true (getD platforms (w .number) 0) 7 (all-at (platformOk platforms) (length platforms) (w .number) (a .1) (omega (arith, w .within))) in
     rw (w .platform) at q
@@ -102,7 +87,7 @@ module _ (old signatures platforms cand new : List ℕ) (t d n k start : ℕ) (e
 
   begins : first new start ≡ true
   unfolding after
-  begins = left .firsts start (omega (arith, below, blocks)) ∙ rw (eq-eqb start start refl) (or-true-r (kept old e start))
+  begins = left .firsts start (omega (arith, below, blocks)) ∙ rw (eq-eqb start start refl) (or-true (kept old e start))
 
   pub gets-candidate : (x p : ℕ) → covers cand x p ≡ true
       → (loadChoice true new x p ≡ Chosen start (revision cand)) × (chosenData new (Chosen start (revision cand)) ≡ dataPart cand)
@@ -126,8 +111,8 @@ module _ (old signatures platforms cand new : List ℕ) (t d n k start : ℕ) (e
       let m : s .total ≤ j .0 * 2048 = omega (arith, s .blocks) in
       let same = same-less (fromBlock old b) (fromBlock new b) (j .0 * 2048) (s .total) (w .1) m in
       let long : s .total ≤ length (fromBlock new b) = omega (arith, slot-inside (fromBlock new b) (j .0) (w .0) .2) in (
-        revision-local (fromBlock old b) (fromBlock new b) (s .total) (s .datas) (s .entries) (j .0) (s .good) same long,
-        part-local (fromBlock old b) (fromBlock new b) (s .total) (s .datas) (s .entries) (j .0) (s .good) same long,
+        revision-local (fromBlock old b) (fromBlock new b) (s .total) (s .data) (s .entries) (j .0) (s .good) same long,
+        part-local (fromBlock old b) (fromBlock new b) (s .total) (s .data) (s .entries) (j .0) (s .good) same long,
       )
 
   -- a listed processor that the candidate doesn't cover
@@ -163,11 +148,11 @@ module _ (old signatures platforms cand new : List ℕ) (t d n k start : ℕ) (e
         go : (t : Bool) → anyBelow (blockCount old) (holds old x p) ≡ t → SameLoad old new x p
         go true q =
             let b = any-at (holds old x p) (blockCount old) q in
-            let y = and-true (first old (b .0)) (covers (fromBlock old (b .0)) x p) (b .2) in
+            let y = and-parts (first old (b .0)) (covers (fromBlock old (b .0)) x p) (b .2) in
             kept-one (b .0) (b .1) (y .0) (y .1)
         go false q =
             kept-none (λ b m f. no-true (covers (fromBlock old b) x p) (λ c.
-            true≢false (sym (and-i f c) ∙ any-fails (holds old x p) (blockCount old) b q m)))
+            true≢false (sym (and-made f c) ∙ any-fails (holds old x p) (blockCount old) b q m)))
 
 module _ (old signatures platforms cand : List ℕ) (back : ℕ) where
   abbrev new : List ℕ
@@ -181,22 +166,22 @@ module _ (old signatures platforms cand : List ℕ) (back : ℕ) where
     legal : Legal old signatures platforms cand (totalSize cand) (a .start) (goes old cand (a .start))
     legal = planned-best old signatures platforms cand a plan .legal
 
-    left : After old new cand (totalSize cand) (plan .datas) (plan .entries) (blocksOf (totalSize cand)) (a .start) (goes old cand (a .start))
+    left : After old new cand (totalSize cand) (plan .data) (plan .entries) (blocksOf (totalSize cand)) (a .start) (goes old cand (a .start))
     unfolding writeBytes bytesAfter
     left =
         rw w
-        (outcome-after old signatures platforms cand (totalSize cand) (plan .datas) (plan .entries) (blocksOf (totalSize cand)) (a .start) (goes old cand (a .start))
+        (outcome-after old signatures platforms cand (totalSize cand) (plan .data) (plan .entries) (blocksOf (totalSize cand)) (a .start) (goes old cand (a .start))
         (plan .store) (plan .good) legal)
 
     pub load-candidate : (x p : ℕ) → covers cand x p ≡ true
         → (loadChoice true new x p ≡ Chosen (a .start) (revision cand)) × (chosenData new (Chosen (a .start) (revision cand)) ≡ dataPart cand)
     load-candidate =
-        gets-candidate old signatures platforms cand new (totalSize cand) (plan .datas) (plan .entries) (blocksOf (totalSize cand)) (a .start) (goes old cand (a .start))
+        gets-candidate old signatures platforms cand new (totalSize cand) (plan .data) (plan .entries) (blocksOf (totalSize cand)) (a .start) (goes old cand (a .start))
         (plan .store) (plan .good) legal left
 
     pub load-kept : (x p : ℕ) → Listed signatures platforms x p → covers cand x p ≡ false → SameLoad old new x p
     load-kept x p y =
-        gets-kept old signatures platforms cand new (totalSize cand) (plan .datas) (plan .entries) (blocksOf (totalSize cand)) (a .start) (goes old cand (a .start))
+        gets-kept old signatures platforms cand new (totalSize cand) (plan .data) (plan .entries) (blocksOf (totalSize cand)) (a .start) (goes old cand (a .start))
         (plan .store) (plan .good) legal left x p (listed-platform signatures platforms x p (plan .list) y) y
 
     pub loads-after : LoadsAfter old signatures platforms cand (a .start) new

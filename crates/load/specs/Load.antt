@@ -2,6 +2,7 @@
 -- the revision and the update's data bytes as a part of the lent store.
 --   holds         the update that begins at block b covers the processor
 --   holder        the first block of the update that covers it, N where there is none
+--   chosenAt      the choice, where the update begins at block b
 --   found         the choice in a valid store, with loading on
 --   loadChoice    the whole order
 --   chosenData    the data bytes of a choice: none but where an update is chosen
@@ -12,7 +13,7 @@ use lib.Dec.{leb, ltb}
 use Rattle.laws.specs.First.{firstBelow}
 use Rattle.laws.specs.Unless.{unless}
 use Rattle.update.specs.Fields.{revision}
-use Rattle.update.specs.Covers.{covers}
+use Rattle.coverage.specs.Covers.{covers}
 use Rattle.view.specs.View.{dataPart}
 use Rattle.store.specs.Blocks.{fromBlock, blockCount}
 use Rattle.store.specs.Scan.{first, storeOk}

@@ -5,20 +5,17 @@
 --   choosing       the order of the answers, as `search` takes it
 use Prim.Native.Nat.{ℕ, _+_, _<_, _≤_}
 use mathlib.Core.Path.{_≡_, sym, _∙_}
-use mathlib.Core.Bool.{Bool, true, false, _&&_, true≢false}
+use mathlib.Core.Bool.{Bool, true, false, true≢false}
 use mathlib.Core.List.{List}
-use mathlib.Core.Logic.{⊎-elim}
-use native.Mathlib.Nat.{eq-or-lt-of-le}
 use native.Mathlib.Omega.{arith}
 use borrow.Author.Tests.{lt-ltb, le-ltb, le-leb, lt-leb}
-use Rattle.laws.specs.Bools.{and-true, no-true}
+use Rattle.laws.specs.Bools.{and-parts, no-true, and-made}
 use Rattle.laws.specs.Below.{anyBelow, any-none, any-more, any-fails, any-false}
-use Rattle.laws.specs.First.{firstBelow, first-is, first-none}
-use Rattle.laws.specs.Orders.{le-or-lt}
+use Rattle.laws.specs.First.{first-found, first-none}
 use Rattle.laws.specs.Unless.{unless}
 use Rattle.update.specs.Fields.{revision}
-use Rattle.update.specs.Covers.{covers}
-use Rattle.update.specs.ShareLaws.{covers-platform}
+use Rattle.coverage.specs.Covers.{covers}
+use Rattle.coverage.specs.ShareLaws.{covers-platform}
 use Rattle.store.specs.Blocks.{fromBlock, blockCount}
 use Rattle.store.specs.Scan.{first, storeOk, directory}
 use Rattle.store.specs.StoreLaws.{directory-ok}
@@ -39,20 +36,15 @@ module _ (s : List ℕ) (ok : storeOk s ≡ true) (x p : ℕ) where
   pub holder-one : (b : ℕ) → b < blockCount s → first s b ≡ true → covers (fromBlock s b) x p ≡ true → holder s x p ≡ b
   unfolding holder holds
   holder-one b l f h =
-      let w = first-is (blockCount s) (holds s x p) in
-      let a = firstBelow (blockCount s) (holds s x p) in
-      ⊎-elim
-      (λ (m : a ≤ b). ⊎-elim (λ q. q)
-      (λ (q : a < b). let y = and-true (first s a) (covers (fromBlock s a) x p) (w .passes (omega arith)) in absurd (only b a l q f (y .0) h (y .1)))
-      (eq-or-lt-of-le m))
-      (λ (m : b < a). absurd (true≢false (sym (let z : first s b && covers (fromBlock s b) x p ≡ true = rw (f, h) in z) ∙ w .before b m)))
-      (le-or-lt a b)
+      first-found (blockCount s) b (holds s x p)
+      (any-false (holds s x p) b (λ c m. no-true (holds s x p c) (λ t. let y = and-parts (first s c) (covers (fromBlock s c) x p) t in only b c l m f (y .0) h (y .1))))
+      l (and-made f h)
 
   pub holder-none : ((b : ℕ) → b < blockCount s → first s b ≡ true → covers (fromBlock s b) x p ≡ false) → holder s x p ≡ blockCount s
   unfolding holder holds
   holder-none h =
       first-none (blockCount s) (holds s x p)
-      (any-false (holds s x p) (blockCount s) (λ b l. no-true (holds s x p b) (λ t. let y = and-true (first s b) (covers (fromBlock s b) x p) t in true≢false (sym (y .1) ∙ h b l (y .0)))))
+      (any-false (holds s x p) (blockCount s) (λ b l. no-true (holds s x p b) (λ t. let y = and-parts (first s b) (covers (fromBlock s b) x p) t in true≢false (sym (y .1) ∙ h b l (y .0)))))
 
 -- the update of entry i covers the processor
 unfoldable pub coversEntry : List ℕ → Directory → ℕ → ℕ → ℕ → Bool

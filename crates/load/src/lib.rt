@@ -3,10 +3,10 @@ ghost use mathlib.Core.Path.{_≡_};
 ghost use mathlib.Core.Bool.{true};
 ghost use Rattle.store.specs.Scan.{directory};
 ghost use Rattle.load.specs.Load.{found, loadChoice, chosenData};
+use coverage::covers;
 use store::blocks;
 use store::directory;
 use store::directory::Directory;
-use update::covers;
 use update::fields;
 use view::parts;
 
@@ -18,7 +18,7 @@ pub enum LoadChoice {
     Chosen { start: u32, revision: u32 },
 }
 
-// The held update that covers the processor, by the directory of the store.
+// The stored update that covers the processor, by the directory of the store.
 fn find(store: &[u8], d: Directory, signature: u32, platform: u32) -> LoadChoice
     requires { ⌜ (d ≡ directory (now store)) × (d .ok ≡ true) ⌝ }
     ensures { λ r. ⌜ r ≡ found (now (store .entry)) signature platform ⌝ }

@@ -11,7 +11,7 @@ use lib.Dec.{eqb}
 use Rattle.laws.specs.Same.{Same}
 use Rattle.update.specs.Sizes.{blocksOf}
 use Rattle.update.specs.Verdict.{verdict}
-use Rattle.update.specs.Covers.{covers}
+use Rattle.coverage.specs.Covers.{covers}
 use Rattle.update.specs.declared.verdict.Verdict.the-variants.{Good}
 use Rattle.store.specs.Blocks.{fromBlock, blockCount}
 use Rattle.store.specs.Scan.{slotAt, first, storeOk}

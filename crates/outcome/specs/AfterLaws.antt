@@ -4,7 +4,7 @@
 --   outcome-after                the theorem
 use Prim.Native.Nat.{ℕ, _+_, _*_, _<_, _≤_}
 use mathlib.Core.Path.{_≡_, refl, sym, ap, _∙_}
-use mathlib.Core.Bool.{Bool, true, false, _||_, true≢false}
+use mathlib.Core.Bool.{Bool, true, false, _||_, true≢false, or-true}
 use mathlib.Core.List.{List}
 use mathlib.Core.Logic.{⊎-elim, _⊎_, inl, inr}
 use native.Mathlib.Omega.{arith}
@@ -12,19 +12,18 @@ use lib.ListN.{length, getD, length-drop}
 use lib.Seq.{getD-drop}
 use lib.Dec.{eqb}
 use borrow.Author.Tests.{eqb-true, eq-eqb}
-use Rattle.laws.specs.Bools.{or-true-r, no-true}
+use Rattle.laws.specs.Bools.{no-true}
 use Rattle.laws.specs.Below.{all-true}
 use Rattle.laws.specs.Same.{Same}
 use Rattle.update.specs.Sizes.{blocksOf}
 use Rattle.update.specs.Verdict.{verdict}
-use Rattle.update.specs.Shares.{Shares}
-use Rattle.update.specs.ShareLaws.{shares-law}
-use Rattle.update.specs.Local.{Alike, shares-local, shares-swap}
+use Rattle.coverage.specs.Shares.{Shares}
+use Rattle.coverage.specs.Local.{Alike, shares-move, shares-turn}
 use Rattle.update.specs.declared.verdict.Verdict.the-variants.{Good}
 use Rattle.store.specs.Blocks.{isFF, filled, fromBlock, blockCount, filled-local}
 use Rattle.store.specs.Scan.{single, slotAt, sizeAt, first, storeOk}
 use Rattle.store.specs.Valid.{Owned, Layout, Valid}
-use Rattle.store.specs.SlotLaws.{filled-single, single-is, single-filled}
+use Rattle.store.specs.SlotLaws.{filled-unused, single-is, unused-filled}
 use Rattle.store.specs.LayoutLaws.{layout-first}
 use Rattle.store.specs.ValidLaws.{store-valid, valid-store}
 use Rattle.store.specs.declared.slot.Slot.the-variants.{Unused, Update}
@@ -32,15 +31,9 @@ use Rattle.outcome.specs.Legal.{Legal}
 use Rattle.outcome.specs.Bytes.{emptiedAt, inRun, outcomeBytes}
 use Rattle.outcome.specs.After.{kept, after, After}
 use Rattle.outcome.specs.ByteLaws.{at-emptied, run-at, outcome-length, outcome-emptied, outcome-kept}
-use Rattle.outcome.specs.PlacedLaws.{cand-same, cand-verdict, cand-covers, cand-slot, cand-size, cand-some}
+use Rattle.outcome.specs.PlacedLaws.{cand-same, cand-verdict, cand-covers, cand-slot, cand-size}
+use Rattle.update.specs.VerdictLaws.{good-blocks}
 use Rattle.outcome.specs.KeptLaws.{kept-parts, kept-made, kept-update, new-long, kept-before, kept-behind, kept-same, kept-slot, kept-covers, kept-size}
-
--- two updates that share still do where others cover the same, and the other way round
-shares-move : (a b c d : List ℕ) → Alike a c → Alike b d → Shares c d → Shares a b
-shares-move a b c d e f w = shares-law a b .0 (shares-local a b c d e f ∙ shares-law c d .1 w)
-
-shares-turn : (a b : List ℕ) → Shares a b → Shares b a
-shares-turn a b w = shares-law b a .0 (shares-swap b a ∙ shares-law a b .1 w)
 
 module _ (old : List ℕ) (start : ℕ) (e : ℕ → Bool) where
   after-cases : (b : ℕ) → after old start e b ≡ true → (kept old e b ≡ true) ⊎ (b ≡ start)
@@ -57,7 +50,7 @@ module _ (old : List ℕ) (start : ℕ) (e : ℕ → Bool) where
 
   start-after : after old start e start ≡ true
   unfolding after
-  start-after = rw (eq-eqb start start refl) (or-true-r (kept old e start))
+  start-after = rw (eq-eqb start start refl) (or-true (kept old e start))
 
 module _ (old signatures platforms cand : List ℕ) (t d n k start : ℕ) (e : ℕ → Bool)
     (valid : Valid old (blockCount old) (first old)) (good : verdict cand ≡ Good t d n k) (legal : Legal old signatures platforms cand t start e) where
@@ -99,7 +92,7 @@ module _ (old signatures platforms cand : List ℕ) (t d n k start : ℕ) (e : �
   emptied-block : (c : ℕ) → c < blockCount old → inRun start (blocksOf t) c ≡ false → emptiedAt old e c ≡ true → slotAt new c ≡ Unused
   unfolding slotAt filled isFF
   emptied-block c l r w =
-      filled-single (fromBlock new c) (block-long c l)
+      filled-unused (fromBlock new c) (block-long c l)
       (all-true (isFF (fromBlock new c) 0) 2048
       (λ j q. eq-eqb (getD (fromBlock new c) (0 + j) 0) 255
       (getD-drop (c * 2048) new (0 + j) 0 ∙ outcome-emptied old t cand start e c (c * 2048 + (0 + j)) (omega (arith, valid .long)) (omega arith) r w)))
@@ -107,15 +100,15 @@ module _ (old signatures platforms cand : List ℕ) (t d n k start : ℕ) (e : �
   unused-block : (c : ℕ) → c < blockCount old → inRun start (blocksOf t) c ≡ false → emptiedAt old e c ≡ false → slotAt old c ≡ Unused → slotAt new c ≡ Unused
   unfolding slotAt
   unused-block c l r w h =
-      filled-single (fromBlock new c) (block-long c l)
-      (sym (filled-local (fromBlock old c) (fromBlock new c) 2048 0 2048 (same-block c l r w) (omega arith)) ∙ single-filled (fromBlock old c) h .1)
+      filled-unused (fromBlock new c) (block-long c l)
+      (sym (filled-local (fromBlock old c) (fromBlock new c) 2048 0 2048 (same-block c l r w) (omega arith)) ∙ unused-filled (fromBlock old c) h .1)
 
   new-order : (b c : ℕ) → b < c → c < blockCount old → after old start e b ≡ true → after old start e c ≡ true → b + sizeAt new b ≤ c
   new-order b c l q h g = go (after-cases old start e b h) (after-cases old start e c g)
     where
       go : (kept old e b ≡ true) ⊎ (b ≡ start) → (kept old e c ≡ true) ⊎ (c ≡ start) → b + sizeAt new b ≤ c
       go (inl x) (inl y) = rw (stays-size b (omega arith) x) (valid .layout .order b c l q (kept-parts old e b x .0) (kept-parts old e c y .0))
-      go (inl x) (inr y) = rw (stays-size b (omega arith) x) (rw y (kept-before old signatures platforms cand t start e valid legal b x (cand-some old cand t d n k start e good ends) (omega arith)))
+      go (inl x) (inr y) = rw (stays-size b (omega arith) x) (rw y (kept-before old signatures platforms cand t start e valid legal b x (good-blocks cand t d n k good) (omega arith)))
       go (inr x) (inl y) = rw x (rw size (kept-behind old signatures platforms cand t start e valid legal c y q (omega arith)))
       go (inr x) (inr y) = absurd (let v : ⊥ = omega arith in v)
 

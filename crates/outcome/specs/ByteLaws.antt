@@ -8,7 +8,7 @@
 --   outcome-emptied, outcome-kept      outside the run: in an emptied update, and elsewhere
 use Prim.Native.Nat.{ℕ, zero, suc, _+_, _*_, _-_, _/_, _<_, _≤_}
 use mathlib.Core.Path.{_≡_, refl, sym, ap, _∙_}
-use mathlib.Core.Bool.{Bool, true, false, _&&_}
+use mathlib.Core.Bool.{Bool, true, false, _&&_, and-false}
 use mathlib.Core.List.{List}
 use mathlib.Core.Logic.{_⊎_, inl, inr}
 use native.Mathlib.Nat.{not-suc-le-zero, add-zero}
@@ -16,7 +16,7 @@ use native.Mathlib.Omega.{arith}
 use lib.ListN.{length, getD}
 use lib.Dec.{leb, ltb}
 use borrow.Author.Tests.{leb-true, ltb-true, le-leb, lt-ltb}
-use Rattle.laws.specs.Bools.{and-true, and-i, and-false-r, no-true}
+use Rattle.laws.specs.Bools.{and-parts, and-made, no-true}
 use Rattle.laws.specs.Below.{any-at, any-stop, any-cong}
 use Rattle.laws.specs.Unless.{unless}
 use Rattle.update.specs.Sizes.{blocksOf}
@@ -42,15 +42,15 @@ module _ (s : List ℕ) where
   -- the update at b, of whatever set, has block c
   owner : (c b : ℕ) → first s b && leb b c && ltb c (b + sizeAt s b) ≡ true → Owned s (first s) b c
   owner c b h =
-      let x = and-true (first s b && leb b c) (ltb c (b + sizeAt s b)) h in
-      let y = and-true (first s b) (leb b c) (x .0) in
+      let x = and-parts (first s b && leb b c) (ltb c (b + sizeAt s b)) h in
+      let y = and-parts (first s b) (leb b c) (x .0) in
       record { at = y .0; from = leb-true b c (y .1); upto = ltb-true c (b + sizeAt s b) (x .1) }
 
   pub emptied-at : (e : ℕ → Bool) (c : ℕ) → emptiedAt s e c ≡ true → (b : ℕ) × (e b ≡ true) × Owned s (first s) b c
   unfolding emptiedAt ownedBy
   emptied-at e c h =
       let w = any-at (ownedBy s e c) (suc c) h in
-      let x = and-true (e (w .0)) (first s (w .0) && leb (w .0) c && ltb c (w .0 + sizeAt s (w .0))) (w .2) in
+      let x = and-parts (e (w .0)) (first s (w .0) && leb (w .0) c && ltb c (w .0 + sizeAt s (w .0))) (w .2) in
       (w .0, x .0, owner c (w .0) (x .1))
 
   pub at-emptied : (e : ℕ → Bool) (c b : ℕ) → e b ≡ true → Owned s (first s) b c → emptiedAt s e c ≡ true
@@ -64,16 +64,16 @@ module _ (s : List ℕ) where
     where
       go : (k : ℕ) (t : Bool) → first s k && leb k c && ltb c (k + sizeAt s k) ≡ t → e k && t ≡ f k && t
       go k true q = rw (h k (owner c k q))
-      go k false q = and-false-r (e k) ∙ sym (and-false-r (f k))
+      go k false q = and-false (e k) ∙ sym (and-false (f k))
 
 module _ (start k c : ℕ) where
   pub run-at : inRun start k c ≡ true → (start ≤ c) × (c < start + k)
   unfolding inRun
-  run-at h = let x = and-true (leb start c) (ltb c (start + k)) h in (leb-true start c (x .0), ltb-true c (start + k) (x .1))
+  run-at h = let x = and-parts (leb start c) (ltb c (start + k)) h in (leb-true start c (x .0), ltb-true c (start + k) (x .1))
 
   pub at-run : start ≤ c → c < start + k → inRun start k c ≡ true
   unfolding inRun
-  at-run l m = and-i (le-leb start c l) (lt-ltb c (start + k) m)
+  at-run l m = and-made (le-leb start c l) (lt-ltb c (start + k) m)
 
   pub not-run : (c < start) ⊎ (start + k ≤ c) → inRun start k c ≡ false
   not-run (inl l) = no-true (inRun start k c) (λ h. omega (arith, run-at h .0))

@@ -16,11 +16,11 @@ use native.Mathlib.Omega.{arith}
 use lib.ListN.{length, length-drop}
 use lib.Seq.{getD-drop}
 use borrow.Author.Tests.{not-true}
-use Rattle.laws.specs.Bools.{and-true, no-true}
+use Rattle.laws.specs.Bools.{and-parts, no-true}
 use Rattle.laws.specs.Orders.{le-or-lt}
 use Rattle.laws.specs.Same.{Same}
 use Rattle.update.specs.Sizes.{blocksOf}
-use Rattle.update.specs.Local.{Alike}
+use Rattle.coverage.specs.Local.{Alike}
 use Rattle.store.specs.Blocks.{fromBlock, blockCount}
 use Rattle.store.specs.Scan.{slotSize, slotAt, sizeAt, first}
 use Rattle.store.specs.Valid.{Owned, Valid}
@@ -36,7 +36,7 @@ use Rattle.outcome.specs.FreeLaws.{free-unowned}
 module _ (old : List ℕ) (e : ℕ → Bool) (b : ℕ) where
   pub kept-parts : kept old e b ≡ true → (first old b ≡ true) × (e b ≡ false)
   unfolding kept
-  kept-parts h = let x = and-true (first old b) (not (e b)) h in (x .0, not-true (e b) (x .1))
+  kept-parts h = let x = and-parts (first old b) (not (e b)) h in (x .0, not-true (e b) (x .1))
 
   pub kept-made : first old b ≡ true → e b ≡ false → kept old e b ≡ true
   unfolding kept

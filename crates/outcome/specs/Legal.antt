@@ -9,7 +9,7 @@ use mathlib.Core.List.{List}
 use mathlib.Core.Logic.{_⊎_}
 use Rattle.laws.specs.Count.{countBelow}
 use Rattle.update.specs.Sizes.{blocksOf}
-use Rattle.update.specs.Shares.{Shares}
+use Rattle.coverage.specs.Shares.{Shares}
 use Rattle.store.specs.Blocks.{fromBlock, blockCount}
 use Rattle.store.specs.Scan.{first}
 use Rattle.store.specs.Kind.{kindAt}

@@ -10,7 +10,7 @@
 --   all-written      the steps of a write, from what each call leaves
 use Prim.Native.Nat.{_-_, ℕ, suc, _+_, _*_, _<_, _≤_}
 use mathlib.Core.Path.{_≡_, refl, sym, ap, _∙_}
-use mathlib.Core.Bool.{Bool, true, false, _&&_, or-false}
+use mathlib.Core.Bool.{Bool, true, false, _&&_, or-false, or-true}
 use mathlib.Core.List.{List}
 use mathlib.Core.Logic.{⊎-elim}
 use native.Mathlib.Nat.{eq-or-lt-of-le}
@@ -19,7 +19,7 @@ use native.Mathlib.Numerals.{add-one}
 use lib.ListN.{length, getD}
 use lib.Dec.{eqb}
 use borrow.Author.Tests.{eq-eqb, ne-eqb, eqb-true}
-use Rattle.laws.specs.Bools.{and-true, and-i, or-true-r, bool-same}
+use Rattle.laws.specs.Bools.{and-parts, and-made, bool-same}
 use Rattle.laws.specs.Below.{anyBelow, any-at, any-stop}
 use Rattle.laws.specs.Orders.{le-or-lt}
 use Rattle.laws.specs.Unless.{unless}
@@ -61,7 +61,7 @@ pub marked-first : (starts : List ℕ) (gone : List Bool) (count b : ℕ) → ma
 unfolding marked markAt
 marked-first starts gone count b h =
     let w = any-at (markAt starts gone b) count h in
-    let x = and-true (getD gone (w .0) false) (eqb (getD starts (w .0) 0) b) (w .2) in
+    let x = and-parts (getD gone (w .0) false) (eqb (getD starts (w .0) 0) b) (w .2) in
     (w .0, w .1, eqb-true (getD starts (w .0) 0) b (x .1), x .0)
 
 module _ (s : List ℕ) (d : Directory) (gone : List Bool) (listing : Listing s d) where
@@ -78,7 +78,7 @@ module _ (s : List ℕ) (d : Directory) (gone : List Bool) (listing : Listing s 
   marked-at i l =
       bool-same (marked (d .starts) gone (d .count) (getD (d .starts) i 0)) (getD gone i false)
       (λ h. let w = marked-first (d .starts) gone (d .count) (getD (d .starts) i 0) h in ap (λ (j : ℕ). getD gone j false) (sym (one-start i (w .0) l (w .1) (w .2))) ∙ w .3)
-      (λ h. any-stop (markAt (d .starts) gone (getD (d .starts) i 0)) (d .count) i l (and-i h (eq-eqb (getD (d .starts) i 0) (getD (d .starts) i 0) refl)))
+      (λ h. any-stop (markAt (d .starts) gone (getD (d .starts) i 0)) (d .count) i l (and-made h (eq-eqb (getD (d .starts) i 0) (getD (d .starts) i 0) refl)))
 
 pub empty-yes : (t : Bool) (s r : List ℕ) (b k : ℕ) → r ≡ fillAt s (b * 2048) (k * 2048) → t ≡ true → r ≡ emptyIf t s b k
 unfolding emptyIf unless
@@ -105,7 +105,7 @@ module _ (old starts sizes : List ℕ) (gone : List Bool) where
           → emptyIf t (cleared old (marked starts gone i)) (getD starts i 0) (getD sizes i 0) ≡ cleared old (marked starts gone (suc i))
       go true q =
           cleared-more old (marked starts gone i) (marked starts gone (suc i)) (getD starts i 0) (getD sizes i 0) (d .begin i l) (d .sized i l) (d .ends i l)
-          (rw (q, eq-eqb (getD starts i 0) (getD starts i 0) refl) (or-true-r (anyBelow i (markAt starts gone (getD starts i 0)))))
+          (rw (q, eq-eqb (getD starts i 0) (getD starts i 0) refl) (or-true (anyBelow i (markAt starts gone (getD starts i 0)))))
           (λ c n. rw (q, ne-eqb (getD starts i 0) c (λ f. n (sym f))) (sym (or-false (anyBelow i (markAt starts gone c)))))
       go false q = cleared-same old (marked starts gone i) (marked starts gone (suc i)) (λ c. rw q (sym (or-false (anyBelow i (markAt starts gone c)))))
 

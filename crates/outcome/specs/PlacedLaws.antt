@@ -2,7 +2,6 @@
 --   cand-same                    its bytes
 --   cand-verdict, cand-covers    and with them its verdict and its processors
 --   cand-slot, cand-size         its slot, of the run's blocks
---   cand-some                    the run has a block
 use Prim.Native.Nat.{ℕ, _+_, _*_, _-_, _/_, _<_, _≤_}
 use mathlib.Core.Path.{_≡_, sym, ap, _∙_}
 use mathlib.Core.Bool.{Bool, true}
@@ -17,11 +16,12 @@ use Rattle.laws.specs.Unless.{unless}
 use Rattle.update.specs.Sizes.{blocksOf}
 use Rattle.update.specs.Verdict.{verdict}
 use Rattle.update.specs.VerdictLaws.{judged}
-use Rattle.update.specs.Local.{verdict-local, covers-local, Alike}
+use Rattle.update.specs.Local.{verdict-local}
+use Rattle.coverage.specs.Local.{covers-local, Alike}
 use Rattle.update.specs.declared.verdict.Verdict.the-variants.{Good}
 use Rattle.store.specs.Blocks.{isFF, filled, fromBlock}
 use Rattle.store.specs.Scan.{slotSize, slotAt, sizeAt}
-use Rattle.store.specs.SlotLaws.{good-size, fits-made, update-made}
+use Rattle.store.specs.SlotLaws.{fits-made, update-made}
 use Rattle.store.specs.declared.slot.Slot.the-variants.{Update}
 use Rattle.outcome.specs.Bytes.{runByte, outcomeBytes}
 use Rattle.outcome.specs.ByteLaws.{at-run, outcome-length, outcome-run}
@@ -68,7 +68,3 @@ module _ (old cand : List ℕ) (t d n k start : ℕ) (e : ℕ → Bool)
 
   pub cand-size : sizeAt new start ≡ blocksOf t
   cand-size = ap slotSize cand-slot
-
-  pub cand-some : 1 ≤ blocksOf t
-  unfolding blocksOf
-  cand-some = omega (arith, good-size cand t d n k good .0)

@@ -7,17 +7,20 @@
 --   keepsListed     the update covers listed processor i, and the candidate doesn't
 --   keeping         the update covers a listed processor that the candidate doesn't cover
 --   Keeps           the same in words; `keeps-law` joins the two
+--   unshared-keeps  of an update that doesn't share: it covers some listed processor
 use Prim.Native.Nat.{ℕ, _<_}
-use mathlib.Core.Path.{_≡_, refl}
-use mathlib.Core.Bool.{Bool, true, false, not, _&&_}
+use mathlib.Core.Path.{_≡_, refl, sym, _∙_}
+use mathlib.Core.Bool.{Bool, true, false, not, _&&_, true≢false}
 use mathlib.Core.List.{List}
 use mathlib.Core.Logic.{_↔_}
 use lib.ListN.{length, getD}
 use lib.Dec.{leb, eqb}
 use borrow.Author.Tests.{not-true}
-use Rattle.laws.specs.Bools.{and-true}
-use Rattle.laws.specs.Below.{allBelow, anyBelow, any-at, any-stop}
-use Rattle.update.specs.Covers.{covers}
+use Rattle.laws.specs.Bools.{and-parts, no-true}
+use Rattle.laws.specs.Below.{allBelow, anyBelow, any-at, any-stop, any-cong}
+use Rattle.coverage.specs.Covers.{covers}
+use Rattle.coverage.specs.Shares.{shares}
+use Rattle.coverage.specs.ShareLaws.{covers-platform, shares-law}
 
 -- platform number i is at most 7
 unfoldable pub platformOk : List ℕ → ℕ → Bool
@@ -60,7 +63,7 @@ unfolding keeping keepsListed coversListed
 keeps-law signatures platforms cand u = (
   λ h.
       let i = any-at (keepsListed signatures platforms cand u) (length signatures) h in
-      let a = and-true (coversListed signatures platforms u (i .0)) (not (coversListed signatures platforms cand (i .0))) (i .2) in
+      let a = and-parts (coversListed signatures platforms u (i .0)) (not (coversListed signatures platforms cand (i .0))) (i .2) in
       record {
         signature = getD signatures (i .0) 0;
         platform = getD platforms (i .0) 0;
@@ -73,3 +76,16 @@ keeps-law signatures platforms cand u = (
       any-stop (keepsListed signatures platforms cand u) (length signatures) (l .number) (l .within)
       (rw (l .signature, l .platform, k .covered, k .uncovered)),
 )
+
+-- a processor that u covers, where u and the candidate share none
+unshared-one : (cand u : List ℕ) (x p : ℕ) → shares u cand ≡ false → (t : Bool) → covers u x p ≡ t → t && not (covers cand x p) ≡ t
+unshared-one cand u x p h false e = refl
+unshared-one cand u x p h true e =
+    rw (no-true (covers cand x p) (λ c.
+    true≢false (sym (shares-law u cand .1 (record { signature = x; platform = p; processor = covers-platform u x p e; left = e; right = c })) ∙ h)))
+
+pub unshared-keeps : (signatures platforms cand u : List ℕ) → shares u cand ≡ false → keeping signatures platforms cand u ≡ coversOne signatures platforms u
+unfolding keeping keepsListed coversOne coversListed
+unshared-keeps signatures platforms cand u h =
+    any-cong (keepsListed signatures platforms cand u) (coversListed signatures platforms u) (length signatures)
+    (λ i l. unshared-one cand u (getD signatures i 0) (getD platforms i 0) h (covers u (getD signatures i 0) (getD platforms i 0)) refl)

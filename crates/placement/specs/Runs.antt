@@ -9,11 +9,11 @@
 use Prim.Native.Nat.{ℕ, _+_, _<_, _≤_, max}
 use mathlib.Core.Path.{_≡_, refl, sym, ap, _∙_}
 use mathlib.Core.Logic.{_⊎_, inl, inr, ⊎-elim}
-use mathlib.Core.Bool.{Bool, true, false, _&&_, _||_, true≢false}
+use mathlib.Core.Bool.{Bool, true, false, _&&_, _||_, true≢false, or-true}
 use native.Mathlib.Omega.{arith}
 use lib.Dec.{ltb, leb}
 use borrow.Author.Tests.{ltb-true, ltb-false, leb-true, lt-ltb, le-leb}
-use Rattle.laws.specs.Bools.{and-true, and-i, or-true-r, no-true}
+use Rattle.laws.specs.Bools.{and-parts, and-made, no-true}
 use Rattle.laws.specs.Below.{anyBelow, any-at, any-fails, any-false}
 use Rattle.laws.specs.Count.{countBelow, either, second, count-mono, count-split}
 use Rattle.placement.specs.Held.{Held, Holds, Laid}
@@ -25,14 +25,14 @@ module _ (h : Held) (k s i : ℕ) where
   meets : 1 ≤ k → 1 ≤ h .size i → touches h k s i ≡ true → (c : ℕ) × (s ≤ c) × (c < s + k) × Holds h i c
   unfolding touches
   meets some size t =
-      let x = and-true (ltb s (h .start i + h .size i)) (ltb (h .start i) (s + k)) t in
+      let x = and-parts (ltb s (h .start i + h .size i)) (ltb (h .start i) (s + k)) t in
       let p = ltb-true s (h .start i + h .size i) (x .0) in
       let q = ltb-true (h .start i) (s + k) (x .1) in
       (max s (h .start i), omega arith, omega arith, record { from = omega arith; upto = omega arith })
 
   met : (c : ℕ) → s ≤ c → c < s + k → Holds h i c → touches h k s i ≡ true
   unfolding touches
-  met c p q x = and-i (lt-ltb s (h .start i + h .size i) (omega arith)) (lt-ltb (h .start i) (s + k) (omega arith))
+  met c p q x = and-made (lt-ltb s (h .start i + h .size i) (omega arith)) (lt-ltb (h .start i) (s + k) (omega arith))
 
 module _ (n : ℕ) (h : Held) (laid : Laid n h) (i j c : ℕ) where
   holds-one : i < h .count → j < h .count → Holds h i c → Holds h j c → i ≡ j
@@ -64,7 +64,7 @@ module _ (n k : ℕ) (h : Held) (some : 1 ≤ k) (laid : Laid n h) (s : ℕ) (e 
   unfolding barred bars
   legal-open =
       any-false (bars h k s) (h .count) (λ i l. no-true (h .keeps i && goes h k s i) (λ b.
-      let x = and-true (h .keeps i) (goes h k s i) b in
+      let x = and-parts (h .keeps i) (goes h k s i) b in
       true≢false (sym (x .0) ∙ legal .spares i l (legal-goes i l (x .1)))))
 
   pub legal-more : emptied h (goes h k s) ≤ emptied h e
@@ -79,17 +79,17 @@ module _ (h : Held) (c i : ℕ) where
   holding-holds : holding h c i ≡ true → Holds h i c
   unfolding holding
   holding-holds t =
-      let x = and-true (leb (h .start i) c) (ltb c (h .start i + h .size i)) t in
+      let x = and-parts (leb (h .start i) c) (ltb c (h .start i + h .size i)) t in
       record { from = leb-true _ _ (x .0); upto = ltb-true _ _ (x .1) }
 
   holds-holding : Holds h i c → holding h c i ≡ true
   unfolding holding
-  holds-holding x = and-i (le-leb _ _ (x .from)) (lt-ltb _ _ (x .upto))
+  holds-holding x = and-made (le-leb _ _ (x .from)) (lt-ltb _ _ (x .upto))
 
 module _ (n k : ℕ) (h : Held) (s : ℕ) where
   met-goes : (c : ℕ) → s ≤ c → c < s + k → (i : ℕ) → Holds h i c → goes h k s i ≡ true
   unfolding goes
-  met-goes c p q i x = rw (met h k s i c p q x) (or-true-r (h .shares i))
+  met-goes c p q i x = rw (met h k s i c p q x) (or-true (h .shares i))
 
   run-free : (c : ℕ) → s ≤ c → c < s + k
       → ((i : ℕ) → i < h .count → Holds h i c → ⊥) ⊎ ((i : ℕ) × (i < h .count) × Holds h i c × (goes h k s i ≡ true))
@@ -108,7 +108,7 @@ module _ (n k : ℕ) (h : Held) (s : ℕ) where
   open-legal ends clear = record {
     ends = ends;
     free = run-free;
-    spares = λ i l g. no-true (h .keeps i) (λ b. true≢false (sym (and-i b g) ∙ any-fails (bars h k s) (h .count) i clear l));
+    spares = λ i l g. no-true (h .keeps i) (λ b. true≢false (sym (and-made b g) ∙ any-fails (bars h k s) (h .count) i clear l));
     frees = λ i l b. rw b;
   }
 

@@ -2,15 +2,17 @@
 --   space, newline .. badText      the fixed parts, in ASCII
 --   lineOf             the line of an update, of its five numbers
 --   catalogueLine      the line of the update of k blocks that begins at block b
+--   kindLine           what a block of a kind adds
 --   blockLine          what block b adds: the line of the update that begins there, or nothing
 --   linesTo            the lines of the updates that begin at the blocks below n, by start
+--   oneIfFree          1 for an unused block, else 0
 --   freeTo             how many of the blocks below n are unused
 --   catalogueText      the whole text
 use Prim.Native.Nat.{ℕ, zero, suc, _+_}
 use mathlib.Core.List.{List, [], _∷_, _++_}
 use Rattle.laws.specs.Unless.{unless}
 use Rattle.update.specs.Fields.{revision}
-use Rattle.update.specs.Platforms.{platformCount, lowestPlatform}
+use Rattle.coverage.specs.Platforms.{platformCount, lowestPlatform}
 use Rattle.store.specs.Blocks.{fromBlock, blockCount}
 use Rattle.store.specs.Scan.{storeOk}
 use Rattle.store.specs.Kind.{kindAt}

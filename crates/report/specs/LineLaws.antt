@@ -2,16 +2,16 @@
 --   few-platforms, low-platform    the numbers of platforms, where n is what a call answered of the part u
 --   block-small, size-small        the numbers of blocks in a valid store
 --   adding                         what a block adds by its kind, as `search` takes it
-use Prim.Native.Nat.{ℕ, zero, suc, _+_, _<_, _≤_}
+use Prim.Native.Nat.{ℕ, _<_}
 use mathlib.Core.Path.{_≡_, sym, _∙_}
-use mathlib.Core.Bool.{Bool, true, false, cond}
+use mathlib.Core.Bool.{Bool, true, false}
 use mathlib.Core.List.{List}
 use native.Mathlib.Omega.{arith}
-use Rattle.laws.specs.Count.{countBelow}
+use Rattle.laws.specs.Count.{count-most}
 use Rattle.laws.specs.First.{first-is}
 use Rattle.update.specs.Fields.{revision}
-use Rattle.update.specs.Covers.{platformsAt, names}
-use Rattle.update.specs.Platforms.{platformCount, lowestPlatform}
+use Rattle.coverage.specs.Covers.{platformsAt, names}
+use Rattle.coverage.specs.Platforms.{platformCount, lowestPlatform}
 use Rattle.store.specs.Blocks.{fromBlock, blockCount}
 use Rattle.store.specs.Scan.{slotAt, begins, storeOk}
 use Rattle.store.specs.Kind.{kindOf, kindAt}
@@ -25,19 +25,10 @@ use Rattle.report.specs.Catalogue.{lineOf, kindLine, blockLine}
 use Rattle.report.specs.Texts.{Added, added-none}
 use Rattle.report.specs.declared.text.Text.{Text}
 
-count-few : (n : ℕ) (p : ℕ → Bool) → countBelow n p ≤ n
-unfolding countBelow
-count-few zero p = omega arith
-count-few (suc n) p = go (p n) (count-few n p)
-  where
-    go : (t : Bool) → countBelow n p ≤ n → cond t (countBelow n p + 1) (countBelow n p) ≤ suc n
-    go true l = omega arith
-    go false l = omega arith
-
 module _ (u : List ℕ) (n : ℕ) where
   pub few-platforms : n ≡ platformCount u → n < 100
   unfolding platformCount
-  few-platforms e = omega (arith, count-few 8 (names (platformsAt u 0)))
+  few-platforms e = omega (arith, count-most (names (platformsAt u 0)) 8)
 
   pub low-platform : n ≡ lowestPlatform u → n < 100
   unfolding lowestPlatform

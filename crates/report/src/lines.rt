@@ -11,10 +11,10 @@ ghost use Rattle.report.specs.Catalogue.{lineOf, blockLine, oneIfFree};
 ghost use Rattle.report.specs.Texts.{Added};
 use crate::text;
 use crate::text::Text;
+use coverage::platforms;
 use store::blocks;
 use store::kind::Kind;
 use update::fields;
-use update::platforms;
 
 // A number below 100 and the byte behind it.
 pub fn number(t: Text, n: u32, end: u8) -> Text

@@ -4,7 +4,8 @@
 --   listed-first       each first block is listed
 --   first-listed       each listed block is a first block below n
 --   starts-increase    they are listed in order
---   sizes-listed       beside each stands its size
+--   sizes-long, sizes-listed    beside each stands its size
+--   few-starts         there are no more than blocks
 use Prim.Native.Nat.{ℕ, zero, suc, _+_, _<_, _≤_}
 use mathlib.Core.Path.{_≡_, refl, sym, ap, _∙_}
 use mathlib.Core.Bool.{Bool, true, false, cond, true≢false}

@@ -1,5 +1,6 @@
 -- What the directory of a valid store lists: the laws by which the layers above use it.
---   Listing      each entry is a held update, in order; each held update is an entry
+--   startOf, sizeOf    first block and size of entry i
+--   Listing      each entry is a stored update, in order; each stored update is an entry
 --   listing      of the directory of a valid store
 --   kind-law     the kind of a block by the directory is its kind in the store
 use Prim.Native.Nat.{ℕ, _+_, _-_, _<_, _≤_}
@@ -12,7 +13,7 @@ use native.Mathlib.Omega.{arith}
 use lib.ListN.{length, getD}
 use lib.Dec.{leb, ltb}
 use borrow.Author.Tests.{leb-true, le-leb, ltb-true, ltb-false, lt-ltb, eq-eqb, ne-eqb}
-use Rattle.laws.specs.Bools.{and-true, and-i}
+use Rattle.laws.specs.Bools.{and-parts, and-made}
 use Rattle.laws.specs.Below.{all-at}
 use Rattle.laws.specs.First.{firstBelow, First, first-is}
 use Rattle.store.specs.Blocks.{blockCount}
@@ -72,7 +73,7 @@ module _ (s : List ℕ) (ok : storeOk s ≡ true) where
   pub listing : (d : Directory) → d ≡ directory s → Listing s d
   listing d e = rw (directory-listed s d e ok) starts-listing
 
-  -- a block that belongs to a held update, and one that doesn't
+  -- a block that belongs to a stored update, and one that doesn't
   module _ (d : Directory) (e : d ≡ directory s) (b : ℕ) (l : b < blockCount s) where
     entries : Listing s d
     entries = listing d e
@@ -80,13 +81,13 @@ module _ (s : List ℕ) (ok : storeOk s ≡ true) where
     owned : (i : ℕ) → i < d .count → ownsAt d b i ≡ true → Owned s (first s) (startOf d i) b
     unfolding ownsAt owns
     owned i m h =
-        let a = and-true (leb (startOf d i) b) (ltb b (startOf d i + sizeOf d i)) h in
+        let a = and-parts (leb (startOf d i) b) (ltb b (startOf d i + sizeOf d i)) h in
         record { at = entries .begin i m; from = leb-true _ _ (a .0); upto = rw (← entries .sized i m) (ltb-true _ _ (a .1)) }
 
     owning : (i a : ℕ) → i < d .count → startOf d i ≡ a → Owned s (first s) a b → ownsAt d b i ≡ true
     unfolding ownsAt owns
     owning i a m q o =
-        and-i (le-leb (startOf d i) b (omega (arith, o .from)))
+        and-made (le-leb (startOf d i) b (omega (arith, o .from)))
         (lt-ltb b (startOf d i + sizeOf d i) (rw (entries .sized i m) (rw q (o .upto))))
 
     -- an owned block is the first of its owner or a later one

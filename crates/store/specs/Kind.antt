@@ -1,8 +1,9 @@
 -- The kind of a block: unused, the first of an update, or a later one of one (document 01, the calls' read and its code 9A).
---   kindAt      the kind of block b of a store
---   ownsAt      entry i of the directory has block b among its blocks
---   kindIn      the kind of block b by the directory
---   finding     the scan of the entries, as `search` takes it
+--   kindOf, kindAt    by what the reading finds at the block; the kind of block b of a store
+--   owns, ownsAt      an update, and entry i of the directory, has block b among its blocks
+--   kindIf, kindBy    the kind of block b by an update that has it, and by entry i
+--   kindIn            the kind of block b by the directory
+--   finding           the scan of the entries, as `search` takes it
 use Prim.Native.Nat.{ℕ, _+_, _<_, _≤_}
 use mathlib.Core.Path.{_≡_, sym, _∙_}
 use mathlib.Core.Bool.{Bool, true, false, cond, _&&_}
@@ -20,7 +21,8 @@ use Rattle.store.specs.declared.kind.Kind.{Kind}
 use Rattle.store.specs.declared.kind.Kind.the-variants.{Free, First, Later}
 use Rattle.store.specs.declared.directory.Directory.{Directory}
 
--- what the reading makes of a block: one at which it reads no slot is a later block of an update
+-- what the reading makes of a block: one at which it reads no slot is a later block of an update. A bad slot stands in no valid store, so any
+-- kind would do for it.
 abbrev pub kindOf : Bool → Slot → Kind
 kindOf true Unused = Free
 kindOf true (Update k) = First k

@@ -15,7 +15,7 @@ use mathlib.Core.Logic.{⊎-elim, _⊎_, inl, inr}
 use native.Mathlib.Nat.{eq-or-lt-of-le, le-of-suc-le-suc, not-suc-le-zero}
 use native.Mathlib.Omega.{arith}
 use borrow.Author.Tests.{le-leb, lt-leb}
-use Rattle.laws.specs.Bools.{and-true, no-true}
+use Rattle.laws.specs.Bools.{and-parts, no-true}
 use Rattle.laws.specs.Below.{allBelow, all-at, all-true}
 use Rattle.laws.specs.Orders.{le-or-lt}
 use Rattle.store.specs.Blocks.{fromBlock}
@@ -46,18 +46,19 @@ module _ (s : List ℕ) (n : ℕ) (u : ℕ → Bool) (y : Layout s n u) where
     cut : nextSlot s b ≤ b → Ended b → Before b
     inside : (a : ℕ) → a < b → u a ≡ true → b < a + sizeAt s a → nextSlot s b ≡ a + sizeAt s a → Before b
 
-  data Kind (b : ℕ) : Type 0 where
-    leads : (k : ℕ) → nextSlot s b ≤ b → Ended b → u b ≡ true → slotAt s b ≡ Update k → Kind b
-    blank : nextSlot s b ≤ b → Ended b → u b ≡ false → single (slotAt s b) ≡ true → Kind b
-    later : (a : ℕ) → a < b → u a ≡ true → b < a + sizeAt s a → nextSlot s b ≡ a + sizeAt s a → u b ≡ false → Kind b
+  -- what the reading makes of block b: the first of an update, an unused one, or a later block of the update at a
+  data BlockRead (b : ℕ) : Type 0 where
+    leads : (k : ℕ) → nextSlot s b ≤ b → Ended b → u b ≡ true → slotAt s b ≡ Update k → BlockRead b
+    blank : nextSlot s b ≤ b → Ended b → u b ≡ false → single (slotAt s b) ≡ true → BlockRead b
+    later : (a : ℕ) → a < b → u a ≡ true → b < a + sizeAt s a → nextSlot s b ≡ a + sizeAt s a → u b ≡ false → BlockRead b
 
-  kind : (b : ℕ) → b < n → Before b → Kind b
+  block-read : (b : ℕ) → b < n → Before b → BlockRead b
   unfolding Ended
-  kind b l (inside a p h q e) =
+  block-read b l (inside a p h q e) =
       later a p h q e (no-true (u b) (λ t. let o = y .order a b p l h t in let z : ⊥ = omega arith in z))
-  kind b l (cut p o) = go (u b) refl (y .full b l)
+  block-read b l (cut p o) = go (u b) refl (y .full b l)
     where
-      go : (t : Bool) → u b ≡ t → (single (slotAt s b) ≡ true) ⊎ ((a : ℕ) × Owned s u a b) → Kind b
+      go : (t : Bool) → u b ≡ t → (single (slotAt s b) ≡ true) ⊎ ((a : ℕ) × Owned s u a b) → BlockRead b
       go true q w = let k = y .held b l q in leads (k .0) p o q (k .1)
       go false q (inl w) = blank p o q w
       go false q (inr w) =
@@ -65,7 +66,7 @@ module _ (s : List ℕ) (n : ℕ) (u : ℕ → Bool) (y : Layout s n u) where
           (λ m. let z = o (w .0) m (w .1 .at) in absurd (let v : ⊥ = omega (arith, w .1 .upto) in v))
           (eq-or-lt-of-le (w .1 .from))
 
-  step : (b : ℕ) → b < n → Kind b → Before (suc b)
+  step : (b : ℕ) → b < n → BlockRead b → Before (suc b)
   unfolding nextSlot Ended
   step b l (leads k p o h e) =
       ⊎-elim
@@ -91,9 +92,9 @@ module _ (s : List ℕ) (n : ℕ) (u : ℕ → Bool) (y : Layout s n u) where
   before : (b : ℕ) → b ≤ n → Before b
   unfolding nextSlot Ended
   before zero l = cut (omega arith) (λ a q g. absurd (not-suc-le-zero q))
-  before (suc b) l = step b l (kind b l (before b (omega arith)))
+  before (suc b) l = step b l (block-read b l (before b (omega arith)))
 
-  read : (b : ℕ) → Kind b → (sound s b ≡ true) × (first s b ≡ u b)
+  read : (b : ℕ) → BlockRead b → (sound s b ≡ true) × (first s b ≡ u b)
   unfolding sound first begins
   read b (leads k p o h e) = rw (le-leb (nextSlot s b) b p, e, h) (refl, refl)
   read b (blank p o h e) = let f = single-facts (slotAt s b) e in rw (le-leb (nextSlot s b) b p, f .no-update, f .no-fault, h) (refl, refl)
@@ -101,10 +102,10 @@ module _ (s : List ℕ) (n : ℕ) (u : ℕ → Bool) (y : Layout s n u) where
 
   -- the reading finds u
   pub layout-first : (b : ℕ) → b < n → first s b ≡ u b
-  layout-first b l = read b (kind b l (before b (omega arith))) .1
+  layout-first b l = read b (block-read b l (before b (omega arith))) .1
 
   pub layout-sound : allBelow n (sound s) ≡ true
-  layout-sound = all-true (sound s) n (λ b l. read b (kind b l (before b (omega arith))) .0)
+  layout-sound = all-true (sound s) n (λ b l. read b (block-read b l (before b (omega arith))) .0)
 
 -- a block belongs to one update at most
 module _ (s : List ℕ) (n : ℕ) (u : ℕ → Bool) (y : Layout s n u) where
@@ -116,7 +117,7 @@ module _ (s : List ℕ) (n : ℕ) (u : ℕ → Bool) (y : Layout s n u) where
       (le-or-lt a b)
 
 -- from the reading to a layout
-pub is-update : (x : Slot) → isUpdate x ≡ true → (k : ℕ) × (x ≡ Update k)
+is-update : (x : Slot) → isUpdate x ≡ true → (k : ℕ) × (x ≡ Update k)
 is-update Unused e = absurd (true≢false (sym e))
 is-update (Update k) e = (k, refl)
 is-update Bad e = absurd (true≢false (sym e))
@@ -124,7 +125,7 @@ is-update Bad e = absurd (true≢false (sym e))
 module _ (s : List ℕ) where
   pub first-parts : (b : ℕ) → first s b ≡ true → (begins s b ≡ true) × ((k : ℕ) × (slotAt s b ≡ Update k))
   unfolding first
-  first-parts b h = let a = and-true (begins s b) (isUpdate (slotAt s b)) h in (a .0, is-update (slotAt s b) (a .1))
+  first-parts b h = let a = and-parts (begins s b) (isUpdate (slotAt s b)) h in (a .0, is-update (slotAt s b) (a .1))
 
   -- a block where a slot begins is inside no update that begins before
   pub begins-outside : (b c : ℕ) → b < c → first s b ≡ true → begins s c ≡ true → b + sizeAt s b ≤ c

@@ -1,12 +1,16 @@
 -- The reading of a store from block 0 (document 01, "The store"). One recursion, `nextSlot`, says where reading goes on; the rest is said of
 -- each block by itself.
+--   slotSize .. single      of what stands at a block: how many blocks it has, whether it is an update, bad, a block by itself
 --   slotAt, sizeAt          what stands at block b, and how many blocks it has
 --   nextSlot, begins        where the reading goes on after the blocks before b; whether it reads a slot at b
---   first                   block b is the first of a held update
+--   first                   block b is the first of a stored update
 --   sound                   what is read at b may stand there
 --   startsTo, sizesTo       the first blocks and the sizes of the updates among the blocks below b, in order
---   scanned                 the directory, or bad
---   clash                   two of the updates cover a common processor
+--   pad                     a list as an array of 32
+--   badStore, listed        the directory of a bad store; what n blocks list
+--   scanned                 what the reading lists, or bad; before the test for a common processor
+--   clashAt .. clash        two of the updates cover a common processor: numbers i and j, i and one before it, some two
+--   apart                   no two do
 --   storeOk, directory      the verdict on a store, and its directory
 use Prim.Native.Nat.{ℕ, zero, suc, _+_, _-_}
 use mathlib.Core.Bool.{Bool, true, false, cond, not, _&&_}
@@ -14,13 +18,14 @@ use mathlib.Core.List.{List, [], _∷_, _++_}
 use lib.ListN.{length, getD, replicate}
 use lib.Dec.{leb}
 use Rattle.laws.specs.Below.{allBelow, anyBelow}
-use Rattle.update.specs.Shares.{shares}
+use Rattle.coverage.specs.Shares.{shares}
 use Rattle.store.specs.Blocks.{fromBlock, blockCount, lengthOk}
 use Rattle.store.specs.Slot.{slotOf}
 use Rattle.store.specs.declared.slot.Slot.{Slot}
 use Rattle.store.specs.declared.slot.Slot.the-variants.{Unused, Update, Bad}
 use Rattle.store.specs.declared.directory.Directory.{Directory}
 
+-- how many blocks it has; a bad one makes the store bad, whatever size it gets
 abbrev pub slotSize : Slot → ℕ
 slotSize Unused = 1
 slotSize (Update k) = k
@@ -95,7 +100,7 @@ clashRow s xs i = anyBelow i (clashAt s xs i)
 unfoldable pub clash : List ℕ → List ℕ → ℕ → Bool
 clash s xs n = anyBelow n (clashRow s xs)
 
--- no two held updates cover a common processor
+-- no two stored updates cover a common processor
 unfoldable pub apart : List ℕ → List ℕ → Bool
 apart s xs = not (clash s xs (length xs))
 

@@ -1,4 +1,7 @@
--- What the loop over the blocks keeps (`State`), and how each kind of block takes it on.
+-- What the loop over the blocks keeps, and how each kind of block takes it on.
+--   State                       what the reading of the blocks below b has found
+--   state-start                 at the start
+--   state-later .. state-bad    at a later block of an update, an unused block, an update's first block, and one that is bad
 use Prim.Native.Nat.{ℕ, suc, _+_, _-_, _<_, _≤_}
 use mathlib.Core.Path.{_≡_, refl, sym, _∙_}
 use mathlib.Core.Bool.{true, false}
@@ -17,7 +20,7 @@ replicate-more : (k m : ℕ) → k ≡ suc m → replicate {A = ℕ} k 0 ≡ 0 �
 replicate-more k m e = rw e
 
 -- one more at the end
-pub pad-set : (xs : List ℕ) (n a : ℕ) → length xs ≡ n → n < 32 → set (pad xs) n a ≡ pad (xs ++ (a ∷ []))
+pad-set : (xs : List ℕ) (n a : ℕ) → length xs ≡ n → n < 32 → set (pad xs) n a ≡ pad (xs ++ (a ∷ []))
 unfolding pad
 pad-set xs n a e l =
     rw (← e, replicate-more (32 - length xs) (32 - length (xs ++ (a ∷ []))) (omega (arith, length-append xs (a ∷ []))))

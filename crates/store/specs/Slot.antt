@@ -1,5 +1,6 @@
 -- What stands at a block, said of the store from its first byte on (document 01, "The store").
 --   fits         an update of t bytes fits in the remaining blocks, and bytes after t in its last block are FFh
+--   updateSlot   by the verdict on the bytes, of a block that isn't unused
 --   slotOf       unused; or a valid update must begin there, fit, and occupy ceiling(T / 2,048) blocks; anything else is bad
 --   fitting      the cases of `fits`, as `search` takes them
 --   slotting     the cases of `slotOf`, as `search` takes them

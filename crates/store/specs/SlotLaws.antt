@@ -1,9 +1,9 @@
 -- Laws of slots: what an update's slot says of the bytes, how one is made, and that a slot is settled by the bytes of its own blocks.
 --   Slotted, slotted        an update's slot: a good verdict, its blocks, and that it fits
 --   slot-inside, slot-byte  it has 1 to 16 blocks, all lent; a byte holds their number
---   update-made             a good verdict that fits is an update's slot
---   Single, single-facts    what a block by itself is and isn't
---   single-filled, filled-single    an unused slot is a block of FFh, both ways
+--   fits-made, update-made  a good verdict that fits is an update's slot
+--   Single, single-facts, single-is    what a block by itself is and isn't; it is unused
+--   unused-filled, filled-unused    an unused slot is a block of FFh, both ways
 --   update-local, update-alike      bytes that agree on its blocks have the same slot and cover the same processors
 --   ends-inside             an update that begins at block b of n ends at n or before
 use Prim.Native.Nat.{ℕ, _+_, _*_, _-_, _<_, _≤_}
@@ -14,7 +14,7 @@ use native.Mathlib.Omega.{arith}
 use lib.ListN.{length, getD, length-drop}
 use lib.Dec.{leb, eqb}
 use borrow.Author.Tests.{leb-true, le-leb, eqb-true}
-use Rattle.laws.specs.Bools.{and-true, and-i, no-true}
+use Rattle.laws.specs.Bools.{and-parts, and-made, no-true}
 use Rattle.laws.specs.Below.{all-at}
 use Rattle.laws.specs.Unless.{unless}
 use Rattle.laws.specs.Same.{Same, same-less}
@@ -22,9 +22,9 @@ use Rattle.dwords.specs.Dword.{dword}
 use Rattle.update.specs.Fields.{version, loaderVersion}
 use Rattle.update.specs.Sizes.{blocksOf}
 use Rattle.update.specs.Verdict.{headerOk, verdict}
-use Rattle.update.specs.SizeLaws.{inside}
-use Rattle.update.specs.VerdictLaws.{judged}
-use Rattle.update.specs.Local.{verdict-local, covers-local, Alike}
+use Rattle.update.specs.VerdictLaws.{judged, good-size}
+use Rattle.update.specs.Local.{verdict-local}
+use Rattle.coverage.specs.Local.{covers-local, Alike}
 use Rattle.update.specs.declared.verdict.Verdict.{Verdict}
 use Rattle.update.specs.declared.verdict.Verdict.the-variants.{Good, BadHeader, BadSum}
 use Rattle.store.specs.Blocks.{isFF, filled, unused, fromBlock, filled-local}
@@ -33,21 +33,11 @@ use Rattle.store.specs.Scan.{slotAt, slotSize, isUpdate, isBad, single}
 use Rattle.store.specs.declared.slot.Slot.{Slot}
 use Rattle.store.specs.declared.slot.Slot.the-variants.{Unused, Update, Bad}
 
--- how long a good update is
-pub good-size : (s : List ℕ) (t d n k : ℕ) → verdict s ≡ Good t d n k → (48 ≤ t) × (t ≤ 32768) × (t ≤ length s) × (48 + d ≤ t)
-good-size s t d n k e =
-    let g = judged s t d n k e in
-    let y = inside s (g .header) (g .sizes) in
-    let z = y .sized .layout in
-    let a = g .total in
-    let b = g .data in
-    (omega arith, omega (arith, y .sized .small), omega (arith, y .lent), omega arith)
-
 pub record Slotted (s : List ℕ) (k : ℕ) : Type 0 where
   pub total : ℕ
-  pub datas : ℕ
+  pub «data» : ℕ
   pub entries : ℕ
-  pub good : verdict s ≡ Good total datas entries k
+  pub good : verdict s ≡ Good total «data» entries k
   pub blocks : k ≡ blocksOf total
   pub fit : fits s total ≡ true
 
@@ -58,7 +48,7 @@ slotted s k e = go (unused s) (verdict s) refl e
     inner : (t d n j : ℕ) → verdict s ≡ Good t d n j → (f : Bool) → fits s t ≡ f → unless f Bad (Update j) ≡ Update k → Slotted s k
     inner t d n j v true q e =
         let b : j ≡ k = cc in
-        record { total = t; datas = d; entries = n; good = v ∙ rw b; blocks = sym b ∙ judged s t d n j v .blocks; fit = q }
+        record { total = t; «data» = d; entries = n; good = v ∙ rw b; blocks = sym b ∙ judged s t d n j v .blocks; fit = q }
     inner t d n j v false q e = absurd (let z : _≡_ {A = ℕ} 0 1 = cc in omega arith)
 
     go : (f : Bool) (c : Verdict) → verdict s ≡ c → unless f (updateSlot s c) Unused ≡ Update k → Slotted s k
@@ -67,21 +57,21 @@ slotted s k e = go (unused s) (verdict s) refl e
     go false BadHeader v e = absurd (let z : _≡_ {A = ℕ} 0 1 = cc in omega arith)
     go false BadSum v e = absurd (let z : _≡_ {A = ℕ} 0 1 = cc in omega arith)
 
-pub fits-parts : (s : List ℕ) (t : ℕ) → fits s t ≡ true → (blocksOf t * 2048 ≤ length s) × (filled s t (blocksOf t * 2048 - t) ≡ true)
+fits-parts : (s : List ℕ) (t : ℕ) → fits s t ≡ true → (blocksOf t * 2048 ≤ length s) × (filled s t (blocksOf t * 2048 - t) ≡ true)
 unfolding fits
 fits-parts s t h =
-    let a = and-true (leb (blocksOf t * 2048) (length s)) (filled s t (blocksOf t * 2048 - t)) h in
+    let a = and-parts (leb (blocksOf t * 2048) (length s)) (filled s t (blocksOf t * 2048 - t)) h in
     (leb-true _ _ (a .0), a .1)
 
 pub fits-made : (s : List ℕ) (t : ℕ) → blocksOf t * 2048 ≤ length s → filled s t (blocksOf t * 2048 - t) ≡ true → fits s t ≡ true
 unfolding fits
-fits-made s t l h = and-i (le-leb (blocksOf t * 2048) (length s) l) h
+fits-made s t l h = and-made (le-leb (blocksOf t * 2048) (length s) l) h
 
 pub slot-inside : (s : List ℕ) (k : ℕ) → slotOf s ≡ Update k → (1 ≤ k) × (k ≤ 16) × (k * 2048 ≤ length s)
 unfolding blocksOf
 slot-inside s k slot =
     let d = slotted s k slot in
-    let z = good-size s (d .total) (d .datas) (d .entries) k (d .good) in
+    let z = good-size s (d .total) (d .data) (d .entries) k (d .good) in
     let f = fits-parts s (d .total) (d .fit) in
     let e = d .blocks in
     (omega (arith, z .0), omega (arith, z .1), omega (arith, f .0))
@@ -95,19 +85,19 @@ not-unused : (s : List ℕ) → dword s 0 ≡ 1 → unused s ≡ false
 unfolding unused filled isFF dword
 not-unused s e =
     no-true (unused s) (λ h.
-    let f = and-true (leb 2048 (length s)) (filled s 0 2048) h .1 in
+    let f = and-parts (leb 2048 (length s)) (filled s 0 2048) h .1 in
     let b = eqb-true (getD s 0 0) 255 (all-at (isFF s 0) 2048 0 f (omega arith)) in omega arith)
 
 pub update-made : (s : List ℕ) (t d n k : ℕ) → verdict s ≡ Good t d n k → fits s t ≡ true → slotOf s ≡ Update k
 unfolding slotOf updateSlot unless headerOk
 update-made s t d n k g f =
     let h = judged s t d n k g .header in
-    let v = eqb-true (version s) 1 (and-true (leb 48 (length s)) (eqb (version s) 1) (and-true (leb 48 (length s) && eqb (version s) 1) (eqb (loaderVersion s) 1) h .0) .1) in
+    let v = eqb-true (version s) 1 (and-parts (leb 48 (length s)) (eqb (version s) 1) (and-parts (leb 48 (length s) && eqb (version s) 1) (eqb (loaderVersion s) 1) h .0) .1) in
     rw (not-unused s v, g, f)
 
-pub filled-single : (s : List ℕ) → 2048 ≤ length s → filled s 0 2048 ≡ true → slotOf s ≡ Unused
+pub filled-unused : (s : List ℕ) → 2048 ≤ length s → filled s 0 2048 ≡ true → slotOf s ≡ Unused
 unfolding slotOf unless unused
-filled-single s l h = rw (le-leb 2048 (length s) l, h)
+filled-unused s l h = rw (le-leb 2048 (length s) l, h)
 
 -- a block by itself has one block, and is neither an update nor bad
 pub record Single (x : Slot) : Type 0 where
@@ -125,11 +115,11 @@ single-is Unused e = refl
 single-is (Update k) e = absurd (true≢false (sym e))
 single-is Bad e = absurd (true≢false (sym e))
 
-pub single-filled : (s : List ℕ) → slotOf s ≡ Unused → (2048 ≤ length s) × (filled s 0 2048 ≡ true)
+pub unused-filled : (s : List ℕ) → slotOf s ≡ Unused → (2048 ≤ length s) × (filled s 0 2048 ≡ true)
 unfolding slotOf unless updateSlot unused
-single-filled s e =
+unused-filled s e =
     let u = go (unused s) (verdict s) e in
-    let a = and-true (leb 2048 (length s)) (filled s 0 2048) u in
+    let a = and-parts (leb 2048 (length s)) (filled s 0 2048) u in
     (leb-true 2048 (length s) (a .0), a .1)
   where
     inner : (f : Bool) (j : ℕ) → unless f Bad (Update j) ≡ Unused → false ≡ true
@@ -156,19 +146,15 @@ module _ (s r : List ℕ) (k : ℕ) (slot : slotOf s ≡ Update k) (same : Same 
       let t = facts .total in
       let e = facts .blocks in
       let f = fits-parts s t (facts .fit) in
-      update-made r t (facts .datas) (facts .entries) k
-      (verdict-local s r t (facts .datas) (facts .entries) k (facts .good) (same-less s r (k * 2048) t same short) (omega (arith, short)))
+      update-made r t (facts .data) (facts .entries) k
+      (verdict-local s r t (facts .data) (facts .entries) k (facts .good) (same-less s r (k * 2048) t same short) (omega (arith, short)))
       (fits-made r t (omega (arith, e)) (sym (filled-local s r (k * 2048) t (blocksOf t * 2048 - t) same (omega (arith, e, short))) ∙ f .1))
 
   pub update-alike : Alike s r
-  update-alike = covers-local s r (facts .total) (facts .datas) (facts .entries) k (facts .good) (same-less s r (k * 2048) (facts .total) same short) (omega (arith, short))
+  update-alike = covers-local s r (facts .total) (facts .data) (facts .entries) k (facts .good) (same-less s r (k * 2048) (facts .total) same short) (omega (arith, short))
 
 pub ends-inside : (s : List ℕ) (n b k : ℕ) → length s ≡ n * 2048 → slotAt s b ≡ Update k → b + k ≤ n
 unfolding slotAt
 ends-inside s n b k e h =
     let d = slot-inside (fromBlock s b) k h in
     omega (arith, d .0, d .2, length-drop (b * 2048) s)
-
--- the blocks that a good verdict names, as `search` takes it: v is what a call answered
-pub verdict-blocks : (s : List ℕ) (v : Verdict) (t d n k : ℕ) → v ≡ verdict s → v ≡ Good t d n k → k ≡ blocksOf t
-verdict-blocks s v t d n k e h = judged s t d n k (sym e ∙ h) .blocks

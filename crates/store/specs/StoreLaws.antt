@@ -1,8 +1,9 @@
 -- From the reading of the blocks to the verdict on the store.
 --   pad-at           an array's first elements are the list's
 --   scanned-few      the reading lists at most n updates
---   store-..         the four ways to the directory
+--   store-bad .. store-length    the four ways to the directory
 --   directory-ok     the directory says whether the store is valid
+--   directory-listed    of a valid store it is what its blocks list
 --   directory-few    it lists at most 32 updates
 use Prim.Native.Nat.{ℕ, _-_, _/_, _<_, _≤_}
 use mathlib.Core.Path.{_≡_, refl, sym, ap, _∙_}
@@ -10,7 +11,7 @@ use mathlib.Core.Bool.{Bool, true, false, cond, _&&_}
 use mathlib.Core.List.{List}
 use native.Mathlib.Omega.{arith}
 use lib.ListN.{length, getD, replicate, List·getD-append}
-use Rattle.laws.specs.Bools.{and-true}
+use Rattle.laws.specs.Bools.{and-parts}
 use Rattle.laws.specs.Below.{allBelow, any-cong}
 use Rattle.store.specs.Blocks.{blockCount, lengthOk, length-parts}
 use Rattle.store.specs.Scan.{sound, startsTo, pad, badStore, listed, scanned, clashAt, clashRow, clash, apart, storeOk, directory}
@@ -22,7 +23,7 @@ unfolding pad
 pad-at xs i l = List·getD-append xs (replicate (32 - length xs) 0) 0 i l
 
 -- the test looks at no others
-pub clash-pad : (s xs : List ℕ) → clash s (pad xs) (length xs) ≡ clash s xs (length xs)
+clash-pad : (s xs : List ℕ) → clash s (pad xs) (length xs) ≡ clash s xs (length xs)
 unfolding clash clashRow clashAt
 clash-pad s xs =
     any-cong (clashRow s (pad xs)) (clashRow s xs) (length xs) (λ i li.
@@ -94,6 +95,6 @@ module _ (s : List ℕ) (d : Directory) (e : d ≡ directory s) where
     where
       go : (t : Bool) → storeOk s ≡ t → cond t (listed s (blockCount s)) badStore .count ≤ 32
       go true q =
-          let l = and-true (lengthOk (length s)) (allBelow (blockCount s) (sound s)) (and-true (lengthOk (length s) && allBelow (blockCount s) (sound s)) (apart s (startsTo s (blockCount s))) q .0) .0 in
+          let l = and-parts (lengthOk (length s)) (allBelow (blockCount s) (sound s)) (and-parts (lengthOk (length s) && allBelow (blockCount s) (sound s)) (apart s (startsTo s (blockCount s))) q .0) .0 in
           omega (arith, few-starts s (blockCount s), length-parts s l .2)
       go false q = omega arith

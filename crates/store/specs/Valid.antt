@@ -9,7 +9,7 @@ use mathlib.Core.Bool.{Bool, true}
 use mathlib.Core.List.{List}
 use mathlib.Core.Logic.{_⊎_}
 use lib.ListN.{length}
-use Rattle.update.specs.Shares.{Shares}
+use Rattle.coverage.specs.Shares.{Shares}
 use Rattle.store.specs.Blocks.{fromBlock}
 use Rattle.store.specs.Scan.{slotAt, sizeAt, single}
 use Rattle.store.specs.declared.slot.Slot.the-variants.{Update}

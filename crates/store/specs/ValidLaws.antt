@@ -2,7 +2,7 @@
 --   valid-law       the theorem, both ways
 --   store-valid     from the verdict, with N and the first blocks read
 --   valid-store     to the verdict
---   valid-apart     no two held updates share, as the Bool that computes
+--   valid-apart     no two stored updates share, as the Bool that computes
 use Prim.Native.Nat.{ℕ, _%_, _/_, _<_, _≤_}
 use mathlib.Core.Path.{_≡_, sym, ap, _∙_}
 use mathlib.Core.Bool.{Bool, true, false, not, _&&_, true≢false}
@@ -12,11 +12,11 @@ use native.Mathlib.Nat.{eq-or-lt-of-le}
 use native.Mathlib.Omega.{arith}
 use lib.ListN.{length, getD}
 use borrow.Author.Tests.{le-leb, not-true}
-use Rattle.laws.specs.Bools.{and-true, no-true}
+use Rattle.laws.specs.Bools.{and-parts, no-true}
 use Rattle.laws.specs.Below.{allBelow, any-fails, any-false}
 use Rattle.laws.specs.Orders.{le-or-lt}
-use Rattle.update.specs.Shares.{shares}
-use Rattle.update.specs.ShareLaws.{shares-law}
+use Rattle.coverage.specs.Shares.{shares}
+use Rattle.coverage.specs.ShareLaws.{shares-law}
 use Rattle.store.specs.Blocks.{fromBlock, blockCount, lengthOk, length-parts}
 use Rattle.store.specs.Scan.{first, sound, startsTo, clashAt, clashRow, clash, apart, storeOk}
 use Rattle.store.specs.Valid.{Valid, ValidStore}
@@ -43,8 +43,8 @@ module _ (s : List ℕ) where
   pub store-valid : storeOk s ≡ true → Valid s (blockCount s) (first s)
   unfolding storeOk apart
   store-valid h =
-      let x = and-true (lengthOk (length s) && allBelow (blockCount s) (sound s)) (not (clash s (startsTo s (blockCount s)) (length (startsTo s (blockCount s))))) h in
-      let y = and-true (lengthOk (length s)) (allBelow (blockCount s) (sound s)) (x .0) in
+      let x = and-parts (lengthOk (length s) && allBelow (blockCount s) (sound s)) (not (clash s (startsTo s (blockCount s)) (length (startsTo s (blockCount s))))) h in
+      let y = and-parts (lengthOk (length s)) (allBelow (blockCount s) (sound s)) (x .0) in
       let z = length-parts s (y .0) in
       record {
         long = z .0;

@@ -1,10 +1,10 @@
-// Whether two held updates cover a common processor.
+// Whether two stored updates cover a common processor.
 ghost use mathlib.Core.Path.{_≡_};
 ghost use Prim.Native.Nat.{_≤_};
 ghost use Rattle.store.specs.Scan.{clash};
 use crate::blocks;
-use update::covers;
-use update::shares;
+use coverage::covers;
+use coverage::shares;
 use update::sizes;
 
 // Do two of the updates that begin at the first `count` blocks of `starts` cover a common processor? The sizes of each are read once.

@@ -1,4 +1,4 @@
-// The directory of a store: the held updates in the order of their first blocks.
+// The directory of a store: the stored updates in the order of their first blocks.
 ghost use mathlib.Core.Path.{_≡_};
 ghost use Rattle.store.specs.Scan.{badStore, directory};
 use crate::blocks;

@@ -3,12 +3,7 @@ pub mod Fields
 pub mod Sizes
 pub mod Sums
 pub mod Verdict
-pub mod Covers
-pub mod Shares
-pub mod Platforms
 pub mod SizeLaws
 pub mod SumLaws
-pub mod PairLaws
-pub mod ShareLaws
 pub mod VerdictLaws
 pub mod Local

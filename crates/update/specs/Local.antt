@@ -1,29 +1,23 @@
 -- An update is settled by its T bytes: bytes that agree with it there are the same update, wherever they lie and whatever stands behind.
---   verdict-local    the same verdict
---   covers-local     the same processors
---   shares-local     two updates share exactly where two that cover the same do
---   shares-swap      sharing is symmetric
+--   field-local, data-local, revision-local    the same fields of the header, number of data bytes and revision
+--   verdict-local                              the same verdict
 use Prim.Native.Nat.{ℕ, _+_, _*_, _-_, _%_, _<_, _≤_}
-use mathlib.Core.Path.{_≡_, refl, sym, ap, _∙_}
+use mathlib.Core.Path.{_≡_, refl, _∙_}
 use mathlib.Core.Bool.{Bool, true, false, cond, _&&_, _||_}
 use mathlib.Core.List.{List}
 use native.Mathlib.Omega.{arith}
 use lib.ListN.{length, take, drop, length-drop}
 use lib.Dec.{leb, eqb}
 use borrow.Author.Tests.{eqb-true, le-leb}
-use Rattle.laws.specs.Bools.{and-true, and-i, bool-same}
-use Rattle.laws.specs.Below.{allBelow, all-cong, any-cong}
+use Rattle.laws.specs.Bools.{and-parts, and-made}
+use Rattle.laws.specs.Below.{allBelow, all-cong}
 use Rattle.laws.specs.Same.{Same, same-less, same-drop, same-take}
 use Rattle.dwords.specs.Dword.{dword, dword-same}
-use Rattle.update.specs.Fields.{version, loaderVersion, flags, dataSize, totalSize}
+use Rattle.update.specs.Fields.{version, revision, loaderVersion, dataSize, totalSize}
 use Rattle.update.specs.Sizes.{sizesOk, tableCount, entriesOf, entryCount}
 use Rattle.update.specs.Sums.{headerSum, entryAt, entryOk, table, sumsOk}
 use Rattle.update.specs.Verdict.{headerOk, sizesFit, verdict}
-use Rattle.update.specs.Covers.{pairCount, signaturePos, flagsPos, signatureAt, flagsAt, platformsAt, coversAt, covers}
-use Rattle.update.specs.Shares.{shares}
 use Rattle.update.specs.SizeLaws.{Inside, inside}
-use Rattle.update.specs.PairLaws.{pair-inside, pairs-made}
-use Rattle.update.specs.ShareLaws.{shares-law}
 use Rattle.update.specs.VerdictLaws.{Judged, judged, good-made}
 use Rattle.update.specs.declared.verdict.Verdict.the-variants.{Good}
 
@@ -31,14 +25,14 @@ use Rattle.update.specs.declared.verdict.Verdict.the-variants.{Good}
 sizes-alike : (d t a b : ℕ) → sizesOk d t a ≡ true → (52 + d ≤ t → a ≡ b) → (sizesOk d t b ≡ true) × (entriesOf d t a ≡ entriesOf d t b)
 unfolding sizesOk entriesOf
 sizes-alike d t a b h e =
-    let x = and-true (eqb (d % 4) 0 && eqb (t % 1024) 0 && leb t 32768) (eqb t (48 + d) || (leb 1 a && leb a 64 && eqb t (48 + d + 20 + 12 * a))) h in
+    let x = and-parts (eqb (d % 4) 0 && eqb (t % 1024) 0 && leb t 32768) (eqb t (48 + d) || (leb 1 a && leb a 64 && eqb t (48 + d + 20 + 12 * a))) h in
     rw (x .0) (go (eqb t (48 + d)) (x .1))
   where
     go : (u : Bool) → u || (leb 1 a && leb a 64 && eqb t (48 + d + 20 + 12 * a)) ≡ true
         → (u || (leb 1 b && leb b 64 && eqb t (48 + d + 20 + 12 * b)) ≡ true) × (cond u 0 a ≡ cond u 0 b)
     go true w = (refl, refl)
     go false w =
-        let y = and-true (leb 1 a && leb a 64) (eqb t (48 + d + 20 + 12 * a)) w in
+        let y = and-parts (leb 1 a && leb a 64) (eqb t (48 + d + 20 + 12 * a)) w in
         let f : a ≡ b = e (omega (arith, eqb-true t (48 + d + 20 + 12 * a) (y .1))) in
         (rw f at w, f)
 
@@ -47,12 +41,12 @@ module _ (s r : List ℕ) (t d n k : ℕ) (good : verdict s ≡ Good t d n k) (s
   facts = judged s t d n k good
 
   within : Inside s
-  within = inside s (facts .header) (facts .sizes)
+  within = inside s (facts .sizes)
 
   header-long : 48 ≤ t
   header-long = omega (arith, facts .total, within .sized .layout)
 
-  pub dword-local : (i : ℕ) → i + 4 ≤ t → dword s i ≡ dword r i
+  dword-local : (i : ℕ) → i + 4 ≤ t → dword s i ≡ dword r i
   dword-local i l = dword-same s r t i same l
 
   -- a field of the header
@@ -63,9 +57,12 @@ module _ (s r : List ℕ) (t d n k : ℕ) (good : verdict s ≡ Good t d n k) (s
   unfolding dataSize
   data-local = rw (field-local 28 (omega arith))
 
-  pub total-local : totalSize s ≡ totalSize r
+  total-local : totalSize s ≡ totalSize r
   unfolding totalSize
   total-local = rw (field-local 28 (omega arith), field-local 32 (omega arith))
+
+  pub revision-local : revision s ≡ revision r
+  revision-local = field-local 4 (omega arith)
 
   count-local : 52 + dataSize s ≤ totalSize s → tableCount s ≡ tableCount r
   unfolding tableCount
@@ -75,22 +72,22 @@ module _ (s r : List ℕ) (t d n k : ℕ) (good : verdict s ≡ Good t d n k) (s
   unfolding sizesFit
   sizes-local =
       sizes-alike (dataSize s) (totalSize s) (tableCount s) (tableCount r)
-      (and-true (sizesOk (dataSize s) (totalSize s) (tableCount s)) (leb (totalSize s) (length s)) (facts .sizes) .0) count-local
+      (and-parts (sizesOk (dataSize s) (totalSize s) (tableCount s)) (leb (totalSize s) (length s)) (facts .sizes) .0) count-local
 
-  pub entries-local : entryCount s ≡ entryCount r
+  entries-local : entryCount s ≡ entryCount r
   unfolding entryCount
   entries-local = rw (← data-local, ← total-local) (sizes-local .1)
 
   header-local : headerOk r ≡ true
   unfolding headerOk
   header-local =
-      let a = and-true (leb 48 (length s) && eqb (version s) 1) (eqb (loaderVersion s) 1) (unfold headerOk in facts .header) in
-      let b = and-true (leb 48 (length s)) (eqb (version s) 1) (a .0) in
-      and-i (and-i (le-leb 48 (length r) (omega (arith, header-long))) (rw (← field-local 0 (omega arith)) (b .1))) (rw (← field-local 20 (omega arith)) (a .1))
+      let a = and-parts (leb 48 (length s) && eqb (version s) 1) (eqb (loaderVersion s) 1) (unfold headerOk in facts .header) in
+      let b = and-parts (leb 48 (length s)) (eqb (version s) 1) (a .0) in
+      and-made (and-made (le-leb 48 (length r) (omega (arith, header-long))) (rw (← field-local 0 (omega arith)) (b .1))) (rw (← field-local 20 (omega arith)) (a .1))
 
   fit-local : sizesFit r ≡ true
   unfolding sizesFit
-  fit-local = rw (← data-local, ← total-local) (and-i (sizes-local .0) (le-leb (totalSize s) (length r) (omega (arith, facts .total))))
+  fit-local = rw (← data-local, ← total-local) (and-made (sizes-local .0) (le-leb (totalSize s) (length r) (omega (arith, facts .total))))
 
   all-local : take (totalSize s) s ≡ take (totalSize s) r
   all-local = same-take s r (totalSize s) (within .lent) (omega (arith, facts .total)) (same-less s r t (totalSize s) same (omega (arith, facts .total)))
@@ -133,34 +130,3 @@ module _ (s r : List ℕ) (t d n k : ℕ) (good : verdict s ≡ Good t d n k) (s
   verdict-local =
       let e = facts .total in
       good-made r header-local fit-local sums-local ∙ rw (← total-local, ← data-local, ← entries-local, ← e, ← facts .data, ← facts .entries, ← facts .blocks) refl
-
-  pairs-local : pairCount s ≡ pairCount r
-  pairs-local = pairs-made s (facts .header) (facts .sizes) ∙ ap (λ (m : ℕ). m + 1) entries-local ∙ sym (pairs-made r header-local fit-local)
-
-  signature-local : (i : ℕ) → i < pairCount s → signatureAt s i ≡ signatureAt r i
-  unfolding signatureAt
-  signature-local i l = rw (← data-local) (dword-local (signaturePos (dataSize s) i) (omega (arith, pair-inside s i l .signature, facts .total)))
-
-  platforms-local : (i : ℕ) → i < pairCount s → platformsAt s i ≡ platformsAt r i
-  unfolding platformsAt flagsAt
-  platforms-local i l = rw (← data-local, dword-local (flagsPos (dataSize s) i) (omega (arith, pair-inside s i l .flags, facts .total)))
-
-  pub covers-local : (x p : ℕ) → covers s x p ≡ covers r x p
-  unfolding covers coversAt
-  covers-local x p = rw (← pairs-local) (any-cong (coversAt s x p) (coversAt r x p) (pairCount s) (λ i l. rw (signature-local i l, platforms-local i l)))
-
--- the same processors
-abbrev pub Alike : List ℕ → List ℕ → Type 0
-Alike a b = (x p : ℕ) → covers a x p ≡ covers b x p
-
-pub shares-local : (a b c d : List ℕ) → Alike a c → Alike b d → shares a b ≡ shares c d
-shares-local a b c d e f =
-    bool-same (shares a b) (shares c d)
-    (λ h. let w = shares-law a b .0 h in shares-law c d .1 (record { signature = w .signature; platform = w .platform; processor = w .processor; left = sym (e (w .signature) (w .platform)) ∙ w .left; right = sym (f (w .signature) (w .platform)) ∙ w .right }))
-    (λ h. let w = shares-law c d .0 h in shares-law a b .1 (record { signature = w .signature; platform = w .platform; processor = w .processor; left = e (w .signature) (w .platform) ∙ w .left; right = f (w .signature) (w .platform) ∙ w .right }))
-
-pub shares-swap : (a b : List ℕ) → shares a b ≡ shares b a
-shares-swap a b = bool-same (shares a b) (shares b a) (half a b) (half b a)
-  where
-    half : (a b : List ℕ) → shares a b ≡ true → shares b a ≡ true
-    half a b h = let w = shares-law a b .0 h in shares-law b a .1 (record { signature = w .signature; platform = w .platform; processor = w .processor; left = w .right; right = w .left })

@@ -1,7 +1,8 @@
 -- What right sizes say, as inequalities.
---   Inside        what checks 2 and 3 settle of the lent bytes: the header, the whole and the table lie inside them
---   inside        from the two checks
---   few-entries   an update has at most 64 entries
+--   Sized             what right D and T say, with n entries
+--   Inside, inside    what check 3 settles of the lent bytes: the whole and the table lie inside them
+--   inside-of         the same from what a call answered, as `search` takes it
+--   entry-count-is    the number of entries, from numbers read before
 use Prim.Native.Nat.{ℕ, _+_, _*_, _%_, _≤_, min}
 use mathlib.Core.Path.{_≡_, refl, sym, _∙_}
 use mathlib.Core.Bool.{Bool, true, false, _&&_, _||_}
@@ -10,54 +11,53 @@ use native.Mathlib.Omega.{arith}
 use lib.ListN.{length}
 use lib.Dec.{leb, eqb}
 use borrow.Author.Tests.{leb-true, eqb-true}
-use Rattle.laws.specs.Bools.{and-true}
-use Rattle.update.specs.Fields.{version, loaderVersion, dataSize, totalSize}
+use Rattle.laws.specs.Bools.{and-parts}
+use Rattle.update.specs.Fields.{dataSize, totalSize}
 use Rattle.update.specs.Sizes.{sizesOk, tableCount, entriesOf, entryCount}
-use Rattle.update.specs.Verdict.{headerOk, sizesFit}
+use Rattle.update.specs.Verdict.{sizesFit}
 
 -- D and T are right, with n entries
 pub record Sized (d t n : ℕ) : Type 0 where
   pub dwords : d % 4 ≡ 0
-  pub whole : t % 4 ≡ 0
   pub small : t ≤ 32768
   pub few : n ≤ 64
   pub layout : t ≡ 48 + d + 20 * min 1 n + 12 * n
 
-pub sizes-sized : (d t n : ℕ) → sizesOk d t n ≡ true → Sized d t (entriesOf d t n)
+sizes-sized : (d t n : ℕ) → sizesOk d t n ≡ true → Sized d t (entriesOf d t n)
 unfolding sizesOk entriesOf
 sizes-sized d t n h =
-    let a = and-true (eqb (d % 4) 0 && eqb (t % 1024) 0 && leb t 32768) (eqb t (48 + d) || (leb 1 n && leb n 64 && eqb t (48 + d + 20 + 12 * n))) h in
-    let b = and-true (eqb (d % 4) 0 && eqb (t % 1024) 0) (leb t 32768) (a .0) in
-    let c = and-true (eqb (d % 4) 0) (eqb (t % 1024) 0) (b .0) in
+    let a = and-parts (eqb (d % 4) 0 && eqb (t % 1024) 0 && leb t 32768) (eqb t (48 + d) || (leb 1 n && leb n 64 && eqb t (48 + d + 20 + 12 * n))) h in
+    let b = and-parts (eqb (d % 4) 0 && eqb (t % 1024) 0) (leb t 32768) (a .0) in
+    let c = and-parts (eqb (d % 4) 0) (eqb (t % 1024) 0) (b .0) in
     go (eqb-true (d % 4) 0 (c .0)) (eqb-true (t % 1024) 0 (c .1)) (leb-true t 32768 (b .1)) (eqb t (48 + d)) refl (a .1)
   where
     go : d % 4 ≡ 0 → t % 1024 ≡ 0 → t ≤ 32768 → (u : Bool) → eqb t (48 + d) ≡ u → u || (leb 1 n && leb n 64 && eqb t (48 + d + 20 + 12 * n)) ≡ true → Sized d t (entriesOf d t n)
     go dwords k small true q w =
         let e = eqb-true t (48 + d) q in
-        rw q (record { dwords = dwords; whole = omega arith; small = small; few = omega arith; layout = omega arith })
+        rw q (record { dwords = dwords; small = small; few = omega arith; layout = omega arith })
     go dwords k small false q w =
-        let x = and-true (leb 1 n && leb n 64) (eqb t (48 + d + 20 + 12 * n)) w in
-        let y = and-true (leb 1 n) (leb n 64) (x .0) in
+        let x = and-parts (leb 1 n && leb n 64) (eqb t (48 + d + 20 + 12 * n)) w in
+        let y = and-parts (leb 1 n) (leb n 64) (x .0) in
         let e = eqb-true t (48 + d + 20 + 12 * n) (x .1) in
         let f = leb-true n 64 (y .1) in
         let g = leb-true 1 n (y .0) in
-        rw q (record { dwords = dwords; whole = omega arith; small = small; few = f; layout = omega arith })
+        rw q (record { dwords = dwords; small = small; few = f; layout = omega arith })
 
 pub record Inside (s : List ℕ) : Type 0 where
-  pub header : 48 ≤ length s
   pub lent : totalSize s ≤ length s
   pub sized : Sized (dataSize s) (totalSize s) (entryCount s)
 
 module _ (s : List ℕ) where
-  pub inside : headerOk s ≡ true → sizesFit s ≡ true → Inside s
-  unfolding headerOk sizesFit entryCount
-  inside h k =
-      let a = and-true (leb 48 (length s) && eqb (version s) 1) (eqb (loaderVersion s) 1) h in
-      let b = and-true (leb 48 (length s)) (eqb (version s) 1) (a .0) in
-      let c = and-true (sizesOk (dataSize s) (totalSize s) (tableCount s)) (leb (totalSize s) (length s)) k in
-      record { header = leb-true 48 (length s) (b .0); lent = leb-true (totalSize s) (length s) (c .1); sized = sizes-sized _ _ _ (c .0) }
+  pub inside : sizesFit s ≡ true → Inside s
+  unfolding sizesFit entryCount
+  inside k =
+      let c = and-parts (sizesOk (dataSize s) (totalSize s) (tableCount s)) (leb (totalSize s) (length s)) k in
+      record { lent = leb-true (totalSize s) (length s) (c .1); sized = sizes-sized _ _ _ (c .0) }
 
--- the same from what calls answered, as `search` takes it
-module _ (s : List ℕ) (r q : Bool) where
-  pub inside-of : r ≡ headerOk s → r ≡ true → q ≡ sizesFit s → q ≡ true → Inside s
-  inside-of e h f k = inside s (sym e ∙ h) (sym f ∙ k)
+  -- q is what a call answered
+  pub inside-of : (q : Bool) → q ≡ sizesFit s → q ≡ true → Inside s
+  inside-of q e h = inside (sym e ∙ h)
+
+  pub entry-count-is : (m d t n : ℕ) → d ≡ dataSize s → t ≡ totalSize s → n ≡ tableCount s → m ≡ entriesOf d t n → m ≡ entryCount s
+  unfolding entryCount
+  entry-count-is m d t n e f g h = rw (← e, ← f, ← g) h

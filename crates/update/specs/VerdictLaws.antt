@@ -1,21 +1,26 @@
 -- Laws of the verdict: the checks as the code takes them, and what a good verdict says.
---   judging        a return at each test of checks 2 and 3, as `search` takes it
---   Judged         what a good verdict says of the bytes
---   judged         the record from the verdict
-use Prim.Native.Nat.{ℕ, _<_, _≤_}
+--   judging           a return at each test of checks 2 and 3, as `search` takes it
+--   good-is           the good verdict, of numbers read before
+--   Judged, judged    what a good verdict says of the bytes
+--   good-made         a good verdict from the three checks
+--   good-size         how long a good update is
+--   good-blocks       it has a block
+--   verdict-blocks    the blocks that a good verdict names, as `search` takes it
+use Prim.Native.Nat.{ℕ, _+_, _<_, _≤_}
 use mathlib.Core.Path.{_≡_, refl, sym, _∙_}
-use mathlib.Core.Bool.{Bool, true, false}
+use mathlib.Core.Bool.{Bool, true, false, and-false}
 use mathlib.Core.List.{List}
 use native.Mathlib.Omega.{arith}
 use lib.ListN.{length}
 use lib.Dec.{leb, eqb}
 use borrow.Author.Tests.{eq-eqb, ne-eqb, le-leb, lt-leb}
-use Rattle.laws.specs.Bools.{and-false-r}
 use Rattle.laws.specs.Unless.{unless}
 use Rattle.update.specs.Fields.{version, loaderVersion, dataSize, totalSize}
 use Rattle.update.specs.Sizes.{sizesOk, tableCount, entryCount, blocksOf}
 use Rattle.update.specs.Sums.{sumsOk}
 use Rattle.update.specs.Verdict.{headerOk, sizesFit, verdict}
+use Rattle.update.specs.SizeLaws.{inside}
+use Rattle.update.specs.declared.verdict.Verdict.{Verdict}
 use Rattle.update.specs.declared.verdict.Verdict.the-variants.{Good, BadHeader, BadSum}
 
 module _ (s : List ℕ) where
@@ -26,7 +31,7 @@ module _ (s : List ℕ) where
   module _ (v : ℕ) (e : v ≡ version s) where
     pub header-version : (v ≡ 1 → ⊥) → false ≡ headerOk s
     unfolding headerOk
-    header-version h = rw (ne-eqb (version s) 1 (λ q. h (e ∙ q)), and-false-r (leb 48 (length s)))
+    header-version h = rw (ne-eqb (version s) 1 (λ q. h (e ∙ q)), and-false (leb 48 (length s)))
 
     pub header-loader : (l : ℕ) → l ≡ loaderVersion s → 48 ≤ length s → v ≡ 1 → eqb l 1 ≡ headerOk s
     unfolding headerOk
@@ -71,3 +76,20 @@ judged s t d n k e = go (headerOk s) refl (sizesFit s) refl (sumsOk s) refl e
 pub good-made : (s : List ℕ) → headerOk s ≡ true → sizesFit s ≡ true → sumsOk s ≡ true → verdict s ≡ Good (totalSize s) (dataSize s) (entryCount s) (blocksOf (totalSize s))
 unfolding verdict unless
 good-made s h k o = rw (h, k, o)
+
+pub good-size : (s : List ℕ) (t d n k : ℕ) → verdict s ≡ Good t d n k → (48 ≤ t) × (t ≤ 32768) × (t ≤ length s) × (48 + d ≤ t)
+good-size s t d n k e =
+    let g = judged s t d n k e in
+    let y = inside s (g .sizes) in
+    let z = y .sized .layout in
+    let a = g .total in
+    let b = g .data in
+    (omega arith, omega (arith, y .sized .small), omega (arith, y .lent), omega arith)
+
+pub good-blocks : (s : List ℕ) (t d n k : ℕ) → verdict s ≡ Good t d n k → 1 ≤ blocksOf t
+unfolding blocksOf
+good-blocks s t d n k e = omega (arith, good-size s t d n k e .0)
+
+-- v is what a call answered
+pub verdict-blocks : (s : List ℕ) (v : Verdict) (t d n k : ℕ) → v ≡ verdict s → v ≡ Good t d n k → k ≡ blocksOf t
+verdict-blocks s v t d n k e h = judged s t d n k (sym e ∙ h) .blocks

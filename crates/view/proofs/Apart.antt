@@ -3,7 +3,6 @@
 --   apart-spec       the function's theorem, from the callee's
 --   number-spec      the same where the result is a number
 -- A view is Copy: what it owns is had twice. One copy is kept whole for the exit, and of the other, what the slice owns goes to the callee.
--- Assumes nothing.
 use mathlib.Core.Path.{_≡_, refl}
 use Prim.Native.Nat.{ℕ}
 use mathlib.Core.List.{List, [], _∷_}

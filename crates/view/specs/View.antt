@@ -1,5 +1,7 @@
--- A view of an update holds the update's own bytes: T of them, and none where the bytes are no update. What it gives is said of these bytes.
---   viewed      the bytes that a view of s holds
+-- A view of an update (document 01, the end of "The calls") holds the update's own bytes: T of them, and none where the bytes are no update.
+-- What it gives is said of these bytes.
+--   viewedBy    the bytes that a view of s holds, by the verdict on s
+--   viewed      those
 --   isUpdate    there are bytes
 --   dataPart    the data bytes
 --   summaryOf   the numbers that a view of the bytes v gives

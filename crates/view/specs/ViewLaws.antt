@@ -1,6 +1,7 @@
 -- Laws of views.
 --   viewing      the bytes of a view by the verdict, as `search` takes them
 --   parting      the three parts that the code gives of the data, as `search` takes them
+--   part-local   an update's data are settled by its T bytes
 --   Seen, seen   the view of a good update is that update: its verdict, fields, sizes and data
 --   only-good    a view holds bytes only of a good update
 use Prim.Native.Nat.{ℕ, _+_, _-_, _<_, _≤_}
@@ -15,27 +16,17 @@ use Rattle.laws.specs.Same.{Same, same-less, same-drop, same-take}
 use Rattle.dwords.specs.Dword.{dword}
 use Rattle.update.specs.Fields.{revision, date, signature, flags, dataSize}
 use Rattle.update.specs.Verdict.{verdict}
-use Rattle.update.specs.SizeLaws.{inside}
-use Rattle.update.specs.VerdictLaws.{judged}
+use Rattle.update.specs.VerdictLaws.{judged, good-size}
 use Rattle.update.specs.Local.{field-local, data-local, verdict-local}
 use Rattle.update.specs.declared.verdict.Verdict.{Verdict}
 use Rattle.update.specs.declared.verdict.Verdict.the-variants.{Good, BadHeader, BadSum}
 use Rattle.view.specs.View.{viewedBy, viewed, isUpdate, dataPart}
 
--- the data lies inside the T bytes, and these inside the lent ones
-good-size : (s : List ℕ) (t d n k : ℕ) → verdict s ≡ Good t d n k → (48 + d ≤ t) × (t ≤ length s) × (d ≡ dataSize s)
-good-size s t d n k e =
-    let g = judged s t d n k e in
-    let y = inside s (g .header) (g .sizes) in
-    let a = g .total in
-    let b = g .data in
-    (omega (arith, y .sized .layout), omega (arith, y .lent), b)
-
 -- c is the verdict that is matched
 module _ (s : List ℕ) (c : Verdict) (e : c ≡ verdict s) where
   module _ (t d n k : ℕ) (h : c ≡ Good t d n k) where
     pub view-count : t ≡ length (take t s)
-    view-count = sym (length-take-le t s (good-size s t d n k (sym e ∙ h) .1))
+    view-count = sym (length-take-le t s (good-size s t d n k (sym e ∙ h) .2))
 
     pub view-good : take t s ≡ viewed s
     unfolding viewed viewedBy
@@ -69,6 +60,18 @@ module _ (v : List ℕ) where
 
 pub ruleset parting = (part-short, part-whole, part-cut)
 
+-- r has the T bytes of the update s
+pub part-local : (s r : List ℕ) (t d n k : ℕ) → verdict s ≡ Good t d n k → Same s r t → t ≤ length r → dataPart s ≡ dataPart r
+unfolding dataPart
+part-local s r t d n k good same long =
+    let z = good-size s t d n k good in
+    let e : d ≡ dataSize s = judged s t d n k good .«data» in
+    let a = length-drop 48 s in
+    let b = length-drop 48 r in
+    rw (← data-local s r t d n k good same long)
+    (same-take (drop 48 s) (drop 48 r) (dataSize s) (omega (arith, z .2, z .3)) (omega (arith, z .3))
+    (same-drop s r (dataSize s) 48 (same-less s r t (48 + dataSize s) same (omega (arith, z .3)))))
+
 -- the view of a good update is that update, with its fields, its T and its data
 pub record Seen (s : List ℕ) (t d n k : ℕ) : Type 0 where
   pub update : isUpdate (viewed s) ≡ true
@@ -82,14 +85,14 @@ pub record Seen (s : List ℕ) (t d n k : ℕ) : Type 0 where
   pub data-long : length (dataPart (viewed s)) ≡ d
 
 module _ (s : List ℕ) (t d n k : ℕ) (g : verdict s ≡ Good t d n k) where
-  size : (48 + d ≤ t) × (t ≤ length s) × (d ≡ dataSize s)
+  size : (48 ≤ t) × (t ≤ 32768) × (t ≤ length s) × (48 + d ≤ t)
   size = good-size s t d n k g
 
   front : take t s ≡ viewed s
   front = view-good s (verdict s) refl t d n k g
 
   long : length (viewed s) ≡ t
-  long = rw (← front) (length-take-le t s (size .1))
+  long = rw (← front) (length-take-le t s (size .2))
 
   same : Same s (viewed s) t
   same i l = sym (getD-take t s i 0 l) ∙ ap (λ (v : List ℕ). getD v i 0) front
@@ -98,13 +101,7 @@ module _ (s : List ℕ) (t d n k : ℕ) (g : verdict s ≡ Good t d n k) where
   field i l = sym (field-local s (viewed s) t d n k g same (omega (arith, long)) i l)
 
   counted : d ≡ dataSize (viewed s)
-  counted = size .2 ∙ data-local s (viewed s) t d n k g same (omega (arith, long))
-
-  parts : take d (drop 48 s) ≡ take d (drop 48 (viewed s))
-  parts =
-      let a = length-drop 48 s in
-      let b = length-drop 48 (viewed s) in
-      same-take (drop 48 s) (drop 48 (viewed s)) d (omega (arith, size)) (omega (arith, size, long)) (same-drop s (viewed s) d 48 (same-less s (viewed s) t (48 + d) same (size .0)))
+  counted = judged s t d n k g .«data» ∙ data-local s (viewed s) t d n k g same (omega (arith, long))
 
   pub seen : Seen s t d n k
   unfolding dataPart
@@ -116,7 +113,7 @@ module _ (s : List ℕ) (t d n k : ℕ) (g : verdict s ≡ Good t d n k) where
     signature-same = field 12 (omega arith);
     flags-same = field 24 (omega arith);
     total = long;
-    data-same = rw (← counted, ← size .2) (sym parts);
+    data-same = sym (part-local s (viewed s) t d n k g same (omega (arith, long)));
     data-long = rw (← counted) (length-take-le d (drop 48 (viewed s)) (omega (arith, length-drop 48 (viewed s), long, size)));
   }
 

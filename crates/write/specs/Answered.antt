@@ -19,7 +19,7 @@ use Rattle.laws.specs.Least.{Pick, nowhere, at}
 use Rattle.laws.specs.Unless.{unless}
 use Rattle.update.specs.Fields.{revision, totalSize}
 use Rattle.update.specs.Sizes.{blocksOf}
-use Rattle.update.specs.VerdictLaws.{judged}
+use Rattle.update.specs.VerdictLaws.{judged, good-blocks}
 use Rattle.store.specs.Blocks.{blockCount}
 use Rattle.placement.specs.Held.{Held}
 use Rattle.placement.specs.Choose.{torn, choose}
@@ -31,7 +31,7 @@ use Rattle.calls.specs.declared.answer.Answer.the-variants.{Presence, Written, 
 use Rattle.write.specs.Marks.{heldIn}
 use Rattle.write.specs.Write.{placed, goodAnswer, judgedAnswer, planAnswer, readBack, writeAnswer}
 use Rattle.write.specs.Demand.{Passes}
-use Rattle.write.specs.Planned.{good-blocks, passed, plan-written}
+use Rattle.write.specs.Planned.{passed, plan-written}
 use Rattle.write.specs.Chosen.{chosen-none, torn-none, planned-best}
 
 abbrev pub NoLegal : List ℕ → List ℕ → List ℕ → List ℕ → Type 0

@@ -8,7 +8,7 @@ use mathlib.Core.Path.{_≡_, sym, _∙_}
 use mathlib.Core.Bool.{Bool, true}
 use mathlib.Core.List.{List}
 use native.Mathlib.Omega.{arith}
-use Rattle.laws.specs.Bools.{and-true}
+use Rattle.laws.specs.Bools.{and-parts}
 use Rattle.laws.specs.Below.{anyBelow, any-at}
 use Rattle.laws.specs.Count.{count-cong}
 use Rattle.laws.specs.Least.{nowhere}
@@ -24,7 +24,8 @@ use Rattle.outcome.specs.Legal.{Legal, emptiedCount}
 use Rattle.calls.specs.declared.answer.Written.{Written as WrittenNumbers}
 use Rattle.write.specs.Marks.{heldIn}
 use Rattle.write.specs.Write.{goes}
-use Rattle.write.specs.Planned.{held-laid, good-blocks, Planned}
+use Rattle.write.specs.Planned.{held-laid, Planned}
+use Rattle.update.specs.VerdictLaws.{good-blocks}
 use Rattle.write.specs.Join.{byNumber, legal-numbers, legal-blocks, goes-number}
 use Rattle.write.specs.Counts.{number-count}
 
@@ -50,7 +51,7 @@ module _ (old signatures platforms cand : List ℕ) (ok : storeOk old ≡ true) 
   unfolding torn
   torn-none q =
       let i = any-at (torn h) (h .count) q in
-      let x = and-true (h .shares (i .0)) (h .keeps (i .0)) (i .2) in
+      let x = and-parts (h .shares (i .0)) (h .keeps (i .0)) (i .2) in
       chosen-none (torn-nowhere (blockCount old) (blocksOf (totalSize cand)) h (i .0) (i .1) (x .0) (x .1))
 
   -- those that go, counted by number and by first block
@@ -81,7 +82,7 @@ module _ (old signatures platforms cand : List ℕ) (ok : storeOk old ≡ true) 
 pub planned-best : (old signatures platforms cand : List ℕ) (a : WrittenNumbers) → Planned old signatures platforms cand a
     → BestOutcome old signatures platforms cand (a .start) (a .emptied)
 planned-best old signatures platforms cand a plan =
-    let some = good-blocks cand (totalSize cand) (plan .datas) (plan .entries) (blocksOf (totalSize cand)) (plan .good) in
+    let some = good-blocks cand (totalSize cand) (plan .data) (plan .entries) (blocksOf (totalSize cand)) (plan .good) in
     let laid = held-laid old signatures platforms cand (plan .store) in
     let w = choose-some (blockCount old) (blocksOf (totalSize cand)) (heldIn old signatures platforms cand) some laid (a .start) (plan .touched) (plan .chosen) in
     best-outcome old signatures platforms cand (plan .store) some (a .start) (a .emptied) (w .0) (plan .emptied ∙ sym (w .1))

@@ -1,7 +1,9 @@
 -- Demand 3, in the owner's words and document 01's ("The words of demand 3"). Everything is said of the old store, the list, the candidate, the
 -- answer and the store afterwards, not of how the write looks for its run.
 --   Passes      none of the checks up to and including 6 refuses the call
+--   sameByte    byte i of the update at block b is as it was
 --   standsAt    the update stored at block b still stands at its place: an update begins there, and it has the old bytes
+--   goneAt      an update stood at block b, and doesn't any more
 --   Accepted    what holds if the write accepts
 --   Demand3     the demand, a field for each sentence
 use Prim.Native.Nat.{ℕ, _+_, _*_, _<_, _≤_}

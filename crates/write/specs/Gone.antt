@@ -12,16 +12,17 @@ use lib.ListN.{length, getD, length-drop}
 use lib.Seq.{getD-drop}
 use lib.Dec.{eqb}
 use borrow.Author.Tests.{eqb-true, eq-eqb, le-leb}
-use Rattle.laws.specs.Bools.{and-true, and-i, no-true}
+use Rattle.laws.specs.Bools.{and-parts, and-made, no-true}
 use Rattle.laws.specs.Below.{allBelow, all-at, all-true, any-at, any-stop}
 use Rattle.laws.specs.Count.{countBelow, count-cong}
 use Rattle.laws.specs.Same.{Same, same-less}
 use Rattle.update.specs.Fields.{revision}
 use Rattle.update.specs.Sizes.{blocksOf}
 use Rattle.update.specs.Verdict.{verdict}
-use Rattle.update.specs.Shares.{Shares}
-use Rattle.update.specs.ShareLaws.{shares-law, covers-platform}
-use Rattle.update.specs.Local.{Alike, field-local, covers-local}
+use Rattle.coverage.specs.Shares.{Shares}
+use Rattle.coverage.specs.ShareLaws.{shares-law, covers-platform}
+use Rattle.update.specs.Local.{revision-local}
+use Rattle.coverage.specs.Local.{Alike, covers-local}
 use Rattle.update.specs.declared.verdict.Verdict.the-variants.{Good}
 use Rattle.store.specs.Blocks.{fromBlock, blockCount}
 use Rattle.store.specs.Slot.{slotOf}
@@ -51,8 +52,8 @@ module _ (u v cand : List ℕ) (j t d n k : ℕ) (slot : slotOf u ≡ Update j) 
   same-revision =
       let f : Slotted u j = slotted u j slot in
       let short : f .total ≤ j * 2048 = omega (arith, f .blocks) in
-      field-local u v (f .total) (f .datas) (f .entries) j (f .good) (same-less u v (j * 2048) (f .total) same short) (omega arith) 4 (omega arith)
-      ∙ sym (field-local cand v t d n k good bytes lent 4 (omega arith))
+      revision-local u v (f .total) (f .data) (f .entries) j (f .good) (same-less u v (j * 2048) (f .total) same short) (omega arith)
+      ∙ sym (revision-local cand v t d n k good bytes lent)
 
 -- an update that covers what the candidate does, with its revision, isn't older
 not-newer : (old signatures platforms cand : List ℕ) (b : ℕ) → storeOk old ≡ true → b < blockCount old → first old b ≡ true → coversOne signatures platforms cand ≡ true
@@ -65,7 +66,7 @@ not-newer old signatures platforms cand b ok l f present alike rev =
     let both : Shares (fromBlock old b) cand = record { signature = x; platform = p; processor = covers-platform cand x p (w .2); left = alike x p ∙ w .2; right = w .2 } in
     let i = listing old ok (directory old) refl .every b l f in
     any-stop (outdates old cand) (directory old .count) (i .0) (i .1)
-    (rw (i .2) (and-i (shares-law (fromBlock old b) cand .1 both) (le-leb (revision cand) (revision (fromBlock old b)) (omega (arith, rev)))))
+    (rw (i .2) (and-made (shares-law (fromBlock old b) cand .1 both) (le-leb (revision cand) (revision (fromBlock old b)) (omega (arith, rev)))))
 
 module _ (old signatures platforms cand : List ℕ) (t d n k start : ℕ) (e : ℕ → Bool) (ok : storeOk old ≡ true)
     (good : verdict cand ≡ Good t d n k) (legal : Legal old signatures platforms cand t start e) where
@@ -111,13 +112,13 @@ module _ (old signatures platforms cand : List ℕ) (t d n k start : ℕ) (e : �
     kept-stands h =
         let j = first-parts old b f .1 in
         let q = kept-made old e b f h in
-        and-i (left .firsts b l ∙ rw q) (same-stands b (j .0) (j .1) (left .stays b (j .0) l q (j .1) .1))
+        and-made (left .firsts b l ∙ rw q) (same-stands b (j .0) (j .1) (left .stays b (j .0) l q (j .1) .1))
 
     pub emptied-gone : coversOne signatures platforms cand ≡ true → outdated old cand ≡ false → e b ≡ true → standsAt old new b ≡ false
     unfolding standsAt after kept
     emptied-gone present newer h =
         no-true (standsAt old new b) (λ w.
-        let x = and-true (first new b) (allBelow (sizeAt old b * 2048) (sameByte old new b)) w in
+        let x = and-parts (first new b) (allBelow (sizeAt old b * 2048) (sameByte old new b)) w in
         let y : eqb b start ≡ true = rw (f, h) at (sym (left .firsts b l) ∙ x .0) in
         let q : b ≡ start = eqb-true b start y in
         start-gone present newer (rw q at l) (rw q at f) (ap (λ (c : ℕ). allBelow (sizeAt old c * 2048) (sameByte old new c)) (sym q) ∙ x .1))

@@ -12,12 +12,12 @@ use mathlib.Core.Logic.{⊎-elim, inl, inr}
 use native.Mathlib.Omega.{arith}
 use lib.Dec.{leb, ltb}
 use borrow.Author.Tests.{leb-true, ltb-true}
-use Rattle.laws.specs.Bools.{and-true, no-true}
+use Rattle.laws.specs.Bools.{and-parts, no-true}
 use Rattle.laws.specs.Below.{any-false}
 use Rattle.update.specs.Fields.{totalSize}
 use Rattle.update.specs.Sizes.{blocksOf}
-use Rattle.update.specs.Shares.{shares}
-use Rattle.update.specs.ShareLaws.{shares-law}
+use Rattle.coverage.specs.Shares.{shares}
+use Rattle.coverage.specs.ShareLaws.{shares-law}
 use Rattle.store.specs.Blocks.{fromBlock, blockCount}
 use Rattle.store.specs.Scan.{first, storeOk, directory}
 use Rattle.store.specs.Kind.{owns, ownsAt, kindAt, kind-none}
@@ -62,7 +62,7 @@ module _ (old signatures platforms cand : List ℕ) (ok : storeOk old ≡ true) 
       fails : (i : ℕ) → i < directory old .count → ownsAt (directory old) c i ≡ false
       fails i m =
           no-true (ownsAt (directory old) c i) (λ w.
-          let x = and-true (leb (startOf (directory old) i) c) (ltb c (startOf (directory old) i + sizeOf (directory old) i)) w in
+          let x = and-parts (leb (startOf (directory old) i) c) (ltb c (startOf (directory old) i + sizeOf (directory old) i)) w in
           none i m (record { from = leb-true _ _ (x .0); upto = ltb-true _ _ (x .1) }))
 
   -- update number i begins below N

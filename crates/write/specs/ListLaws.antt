@@ -7,7 +7,7 @@ use native.Mathlib.Omega.{arith}
 use lib.ListN.{length}
 use lib.Dec.{leb, eqb}
 use borrow.Author.Tests.{eq-eqb, ne-eqb, le-leb, lt-leb, leb-true, eqb-true}
-use Rattle.laws.specs.Bools.{and-true}
+use Rattle.laws.specs.Bools.{and-parts}
 use Rattle.laws.specs.Below.{allBelow, all-stop}
 use Rattle.outcome.specs.Processors.{platformOk, listOk}
 
@@ -59,9 +59,9 @@ pub record GoodList (signatures platforms : List ℕ) : Type 0 where
 pub good-list : (signatures platforms : List ℕ) (r : Bool) → r ≡ listOk signatures platforms → r ≡ true → GoodList signatures platforms
 unfolding listOk
 good-list signatures platforms r e h =
-    let a = and-true (eqb (length signatures) (length platforms) && leb 1 (length signatures) && leb (length signatures) 8) (allBelow (length platforms) (platformOk platforms)) (sym e ∙ h) in
-    let b = and-true (eqb (length signatures) (length platforms) && leb 1 (length signatures)) (leb (length signatures) 8) (a .0) in
-    let c = and-true (eqb (length signatures) (length platforms)) (leb 1 (length signatures)) (b .0) in
+    let a = and-parts (eqb (length signatures) (length platforms) && leb 1 (length signatures) && leb (length signatures) 8) (allBelow (length platforms) (platformOk platforms)) (sym e ∙ h) in
+    let b = and-parts (eqb (length signatures) (length platforms) && leb 1 (length signatures)) (leb (length signatures) 8) (a .0) in
+    let c = and-parts (eqb (length signatures) (length platforms)) (leb 1 (length signatures)) (b .0) in
     record { same = eqb-true _ _ (c .0); some = leb-true _ _ (c .1); few = leb-true _ _ (b .1) }
 
 pub list-few : (signatures platforms : List ℕ) → listOk signatures platforms ≡ true → length signatures ≤ 8

@@ -5,8 +5,8 @@
 --   Agree                     two tables of updates are the same below the count
 --   choose-same, shared-same, torn-same    then so are the choice, the number that share, and check 7
 --   held-same                 right marks agree with the definitions' table
-use Prim.Native.Nat.{ℕ, zero, suc, _+_, _-_, _<_, _≤_}
-use mathlib.Core.Path.{_≡_, refl, sym, _∙_}
+use Prim.Native.Nat.{ℕ, suc, _+_, _-_, _<_, _≤_}
+use mathlib.Core.Path.{_≡_, sym, _∙_}
 use mathlib.Core.Bool.{Bool, true, false, _&&_}
 use mathlib.Core.List.{List}
 use lib.ListN.{length, getD}
@@ -17,7 +17,7 @@ use Rattle.laws.specs.Count.{countBelow, count-cong}
 use Rattle.laws.specs.Least.{least-cong}
 use Rattle.laws.specs.Arrays.{Filled, filled-all}
 use Rattle.update.specs.Fields.{revision}
-use Rattle.update.specs.Shares.{shares}
+use Rattle.coverage.specs.Shares.{shares}
 use Rattle.store.specs.Blocks.{fromBlock}
 use Rattle.store.specs.Scan.{directory}
 use Rattle.store.specs.declared.directory.Directory.{Directory}

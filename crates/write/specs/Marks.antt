@@ -1,4 +1,5 @@
 -- The stored updates with their two marks against a candidate (document 01, checks 6 to 8).
+--   updateAt        the store from the first block of update number i on
 --   sharesEntry     update number i shares a processor with the candidate, listed or not
 --   keepsEntry      it covers a listed processor that the candidate doesn't
 --   heldIn          the stored updates, by number, as the choice of a run sees them
@@ -10,7 +11,7 @@ use mathlib.Core.List.{List}
 use lib.Dec.{leb}
 use Rattle.laws.specs.Below.{anyBelow}
 use Rattle.update.specs.Fields.{revision}
-use Rattle.update.specs.Shares.{shares}
+use Rattle.coverage.specs.Shares.{shares}
 use Rattle.store.specs.Blocks.{fromBlock}
 use Rattle.store.specs.Scan.{directory}
 use Rattle.store.specs.DirectoryLaws.{startOf, sizeOf}

@@ -1,6 +1,5 @@
 -- What it says that checks 1 to 8 let a write pass (document 01, "The calls", 1).
 --   held-laid        the stored updates lie as the choice of a run wants them
---   good-blocks      a good candidate has a block
 --   passed           a check that doesn't refuse
 --   Planned          the facts that a start and an emptied count come with
 --   plan-written     they hold where the plan answers with the two numbers
@@ -18,12 +17,11 @@ use Rattle.laws.specs.Unless.{unless}
 use Rattle.update.specs.Fields.{totalSize}
 use Rattle.update.specs.Sizes.{blocksOf}
 use Rattle.update.specs.Verdict.{verdict}
-use Rattle.update.specs.VerdictLaws.{judged}
+use Rattle.update.specs.VerdictLaws.{judged, good-size, good-blocks}
 use Rattle.update.specs.declared.verdict.Verdict.{Verdict}
 use Rattle.update.specs.declared.verdict.Verdict.the-variants.{Good, BadHeader, BadSum}
 use Rattle.store.specs.Blocks.{blockCount}
 use Rattle.store.specs.Scan.{storeOk, directory}
-use Rattle.store.specs.SlotLaws.{good-size}
 use Rattle.store.specs.DirectoryLaws.{Listing, listing}
 use Rattle.placement.specs.Held.{Held, Laid}
 use Rattle.placement.specs.Choose.{torn, choose}
@@ -42,10 +40,6 @@ held-laid old signatures platforms cand ok =
     let d : Listing old (directory old) = listing old ok (directory old) refl in
     record { some = d .some; inside = d .ends; apart = λ i j l m. d .order j i l m }
 
-pub good-blocks : (cand : List ℕ) (t d n k : ℕ) → verdict cand ≡ Good t d n k → 1 ≤ blocksOf t
-unfolding blocksOf
-good-blocks cand t d n k e = omega (arith, good-size cand t d n k e .0)
-
 -- a check t that refuses with the codes ah and al
 pub passed : (t : Bool) (ah al : ℕ) (rest : Answer) (a : WrittenNumbers) → unless t (refusal ah al) rest ≡ Written a → (t ≡ true) × (rest ≡ Written a)
 unfolding unless
@@ -56,9 +50,9 @@ pub record Planned (old signatures platforms cand : List ℕ) (a : WrittenNumber
   pub store : storeOk old ≡ true
   pub list : listOk signatures platforms ≡ true
   -- data size and entries of the candidate
-  pub datas : ℕ
+  pub «data» : ℕ
   pub entries : ℕ
-  pub good : verdict cand ≡ Good (totalSize cand) datas entries (blocksOf (totalSize cand))
+  pub good : verdict cand ≡ Good (totalSize cand) «data» entries (blocksOf (totalSize cand))
   pub present : coversOne signatures platforms cand ≡ true
   pub newer : outdated old cand ≡ false
   -- how many are touched and don't share
@@ -98,7 +92,7 @@ module _ (old signatures platforms cand : List ℕ) (a : WrittenNumbers) (store 
       record {
         store = store;
         list = list;
-        datas = d;
+        «data» = d;
         entries = n;
         good = v;
         present = x .0;

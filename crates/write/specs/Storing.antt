@@ -10,7 +10,7 @@ use mathlib.Core.Path.{_≡_, refl, sym, ap, _∙_}
 use mathlib.Core.Bool.{Bool, true, false, _&&_, true≢false}
 use lib.Dec.{leb}
 use borrow.Author.Tests.{leb-true}
-use Rattle.laws.specs.Bools.{and-true, no-true}
+use Rattle.laws.specs.Bools.{and-parts, no-true}
 use mathlib.Core.List.{List, []}
 use native.Mathlib.Omega.{arith}
 use lib.ListN.{length, getD}
@@ -102,7 +102,7 @@ module _ (old cand : List ℕ) (m : Marked) (start : ℕ) (y : Storing old cand 
   fills-entry k i c e l out from upto =
       let n : i < directory old .count = rw (y .shared .count-is) at l in
       let z : leb start (getD (m .starts) i 0) && leb (getD (m .starts) i 0 + getD (m .sizes) i 0) (start + k) ≡ false =
-      no-true (leb start (getD (m .starts) i 0) && leb (getD (m .starts) i 0 + getD (m .sizes) i 0) (start + k)) (λ q. let w = and-true (leb start (getD (m .starts) i 0)) (leb (getD (m .starts) i 0 + getD (m .sizes) i 0) (start + k)) q in
+      no-true (leb start (getD (m .starts) i 0) && leb (getD (m .starts) i 0 + getD (m .sizes) i 0) (start + k)) (λ q. let w = and-parts (leb start (getD (m .starts) i 0)) (leb (getD (m .starts) i 0 + getD (m .sizes) i 0) (start + k)) q in
       let a : start ≤ startOf (directory old) i = rw (y .shared .starts-are) at (leb-true start (getD (m .starts) i 0) (w .0)) in
       let b : startOf (directory old) i + sizeOf (directory old) i ≤ start + k = rw (y .shared .starts-are, y .sizes) at (leb-true (getD (m .starts) i 0 + getD (m .sizes) i 0) (start + k) (w .1)) in
       let u : startOf (directory old) i + sizeAt old (startOf (directory old) i) ≤ start + k = rw (← entries .sized i n) b in

@@ -30,7 +30,7 @@ planned-accepted old signatures platforms cand a plan =
     let k = blocksOf t in
     let best = planned-best old signatures platforms cand a plan in
     let new = outcomeBytes old t cand (a .start) set in
-    let left = outcome-after old signatures platforms cand t (plan .datas) (plan .entries) k (a .start) set (plan .store) (plan .good) (best .legal) in
+    let left = outcome-after old signatures platforms cand t (plan .data) (plan .entries) k (a .start) set (plan .store) (plan .good) (best .legal) in
     record {
       set = set;
       legal = best .legal;
@@ -42,7 +42,7 @@ planned-accepted old signatures platforms cand a plan =
       needed = λ b l f w. no-true (set b) (λ e. best .legal .spares b l f w e);
       valid = valid-law new .0 (left .ok);
       gone = best .counts
-          ∙ gone-count old signatures platforms cand t (plan .datas) (plan .entries) k (a .start) set (plan .store) (plan .good) (best .legal) (plan .present) (plan .newer);
+          ∙ gone-count old signatures platforms cand t (plan .data) (plan .entries) k (a .start) set (plan .store) (plan .good) (best .legal) (plan .present) (plan .newer);
     }
 
 pub demand3 : (old signatures platforms cand : List ℕ) (back : ℕ) → Passes old signatures platforms cand

@@ -1,11 +1,15 @@
 -- What the write answers, and the bytes that it leaves (document 01, "The calls", 1): each code exactly when its rule says, in the order 1 to 9.
+--   written         the answer with a start block and an emptied count
 --   placed          check 8 of the choice of a run
 --   markedAnswer    checks 6 to 8, by the stored updates' marks
 --   goodAnswer      checks 5 to 8 of a candidate that passes checks 2 to 4
 --   judgedAnswer    checks 2 to 8
 --   planAnswer      checks 1 to 8: a refusal, or the start and the emptied count
+--   readBack        check 9, on an answer of checks 1 to 8
 --   writeAnswer     all of them
+--   touched         the run from `start` touches the update at block b
 --   goes            the update at block b is emptied: it shares, wherever it lies, or the run touches it
+--   bytesAfter      the store after an answer
 --   writeBytes      the store afterwards: the outcome's bytes, or the old ones on a refusal
 use Prim.Native.Nat.{ℕ, _+_}
 use mathlib.Core.Bool.{Bool, not, _&&_, _||_}
@@ -18,7 +22,7 @@ use Rattle.laws.specs.Unless.{unless}
 use Rattle.update.specs.Fields.{revision, totalSize}
 use Rattle.update.specs.Sizes.{blocksOf}
 use Rattle.update.specs.Verdict.{verdict}
-use Rattle.update.specs.Shares.{shares}
+use Rattle.coverage.specs.Shares.{shares}
 use Rattle.update.specs.declared.verdict.Verdict.{Verdict}
 use Rattle.update.specs.declared.verdict.Verdict.the-variants.{Good, BadHeader, BadSum}
 use Rattle.store.specs.Blocks.{fromBlock, blockCount}

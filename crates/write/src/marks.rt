@@ -11,12 +11,12 @@ ghost use Rattle.write.specs.Covered.{Covered};
 ghost use Rattle.write.specs.Marks.{outdated};
 ghost use Rattle.write.specs.MarkLaws.{Shared, Marks};
 use crate::processors;
+use coverage::covers;
+use coverage::shares;
 use placement::Marked;
 use store::blocks;
 use store::directory::Directory;
-use update::covers;
 use update::fields;
-use update::shares;
 use update::sizes;
 
 // Marks each stored update: it shares a processor with the candidate; it covers a listed processor that the candidate doesn't. `marks` are

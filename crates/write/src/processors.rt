@@ -4,11 +4,11 @@ ghost use Prim.Native.Nat.{_≤_, _<_};
 ghost use mathlib.Core.Bool.{not, _&&_};
 ghost use lib.ListN.{length};
 ghost use Rattle.update.specs.Fields.{dataSize};
-ghost use Rattle.update.specs.Covers.{pairCount};
+ghost use Rattle.coverage.specs.Covers.{pairCount};
 ghost use Rattle.laws.specs.Below.{anyBelow};
 ghost use Rattle.outcome.specs.Processors.{platformOk, listOk, coversListed};
 ghost use Rattle.write.specs.Covered.{Covered, coveredIn, keepsBy};
-use update::covers;
+use coverage::covers;
 use update::sizes;
 
 fn platform_ok(platforms: &[u8], i: usize) -> bool

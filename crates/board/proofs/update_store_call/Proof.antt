@@ -1,4 +1,4 @@
--- `update_store_call` meets its contract: the reply of the call, laid out.
+-- `board::update_store_call` meets its contract: the reply of the call, laid out.
 use mathlib.Core.Path.{ap, _∙_}
 use borrow.Author.Needs.{needs}
 use Rattle.calls.specs.declared.answer.Reply.{Reply}

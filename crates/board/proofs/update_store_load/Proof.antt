@@ -1,4 +1,4 @@
--- `update_store_load` meets its contract: the choice, laid out.
+-- `board::update_store_load` meets its contract: the choice, laid out.
 use mathlib.Core.Path.{ap, _∙_}
 use borrow.Author.Needs.{needs}
 use Rattle.board.specs.Words.{loadAx, loadWords}

@@ -14,23 +14,23 @@ returns-3 : tie.Need-returns-3
 returns-3 c =
     let w = c .before .before in
     let t = w .before .before in
-    write-called _ _ _ _ _ _ _ _ _ _ _ (t .before .before .if1 .left) (t .before .if2 .left) _ _ (t .if3 .taken) (w .write .ensures .0) (w .write .ensures .1 .0)
+    write-called _ _ _ _ _ _ _ _ _ _ _ (t .before .before .if1 .left) _ _ (t .if3 .taken) (w .write .ensures .0) (w .write .ensures .1 .0)
 
 returns-4 : tie.Need-returns-4
 returns-4 c =
     let t = c .before in
-    control-called _ _ _ _ _ _ _ _ _ _ _ (t .before .before .before .if1 .left) (t .before .before .if2 .left) (t .before .if3 .left) _ (t .if4 .taken) (c .control .ensures)
+    control-called _ _ _ _ _ _ _ _ _ _ _ (t .before .before .before .if1 .left) _ (t .if4 .taken) (c .control .ensures)
 
 returns-5 : tie.Need-returns-5
 returns-5 c =
     let r = c .before .before in
     let t = r .before .before .before in
-    read-called _ _ _ _ _ _ _ _ _ _ _ (t .before .before .before .before .if1 .left) (t .before .before .before .if2 .left) (t .before .before .if3 .left) (t .before .if4 .left) _ _ (t .if5 .taken) (r .read .ensures .0) (r .read .ensures .1)
+    read-called _ _ _ _ _ _ _ _ _ _ _ (t .before .before .before .before .if1 .left) _ _ (t .if5 .taken) (r .read .ensures .0) (r .read .ensures .1)
 
 returns-6 : tie.Need-returns-6
 returns-6 c =
     let t = c .before in
-    other-sub _ _ _ _ _ _ _ _ _ _ _ (t .before .before .before .before .if1 .left) (t .before .before .before .if2 .left) (t .before .before .if3 .left) (t .before .if4 .left) _ (t .if5 .left) (c .not-implemented2 .ensures)
+    other-sub _ _ _ _ _ _ _ _ _ _ _ (t .before .before .before .before .if1 .left) _ (t .before .before .before .if2 .left) (t .before .before .if3 .left) (t .before .if4 .left) (t .if5 .left) (c .not-implemented2 .ensures)
 
 pub call-spec : {M : Type 1} → statement M
 call-spec =

@@ -1,5 +1,4 @@
 -- `view::summary` meets its contract: a walk of its MIR, by hand. A view is made, each field is read of a copy of it, and the struct is made of what came back.
--- Assumes nothing.
 use mathlib.Core.Path.{_≡_, refl, ap, _∙_}
 use Prim.Native.Nat.{ℕ}
 use mathlib.Core.Bool.{Bool}

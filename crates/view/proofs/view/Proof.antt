@@ -1,5 +1,4 @@
 -- `view::view` meets its contract: a walk of its MIR, by hand. A view is made of the slice that `front` gives: what that slice owns is what the view owns.
--- Assumes nothing.
 use mathlib.Core.Path.{_≡_, refl}
 use Prim.Native.Nat.{ℕ}
 use mathlib.Core.List.{List, [], _∷_}

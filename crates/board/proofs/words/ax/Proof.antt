@@ -1,4 +1,4 @@
--- `words::ax` meets its contract: a case each.
+-- `board::words::ax` meets its contract: a case each.
 use borrow.Author.Needs.{needs}
 use Rattle.board.specs.Words.{axOf}
 use Rattle.board.proofs.words.ax.Statement.{statement}

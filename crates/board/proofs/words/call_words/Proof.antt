@@ -1,4 +1,4 @@
--- `words::call_words` meets its contract: a case each.
+-- `board::words::call_words` meets its contract: a case each.
 use borrow.Author.Needs.{needs}
 use Rattle.board.specs.WordLaws.{wording}
 use Rattle.board.proofs.words.call_words.Statement.{statement}

@@ -1,4 +1,4 @@
--- `words::carry` meets its contract.
+-- `board::words::carry` meets its contract: one branch.
 use borrow.Author.Tests.{eq-eqb, ne-eqb}
 use Rattle.board.proofs.words.carry.Statement.{statement}
 use Rattle.board.proofs.words.carry.Tie as tie

@@ -1,4 +1,4 @@
--- `words::load_ax` meets its contract: a case each.
+-- `board::words::load_ax` meets its contract: a case each.
 use borrow.Author.Needs.{needs}
 use Rattle.board.specs.Words.{loadAx}
 use Rattle.board.proofs.words.load_ax.Statement.{statement}

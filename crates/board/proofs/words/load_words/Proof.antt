@@ -1,4 +1,4 @@
--- `words::load_words` meets its contract: a case each.
+-- `board::words::load_words` meets its contract: a case each.
 use Prim.Native.Nat.{_<_}
 use native.Mathlib.Omega.{arith}
 use borrow.Author.Needs.{needs}

@@ -1,4 +1,4 @@
--- `words::put` meets its contract.
+-- `board::words::put` meets its contract: the row, with the carry that `carry` gives.
 use borrow.Author.Needs.{needs}
 use Rattle.board.specs.WordLaws.{rowOf}
 use Rattle.board.proofs.words.put.Statement.{statement}

@@ -4,7 +4,7 @@ use mathlib.Core.Path.{_≡_}
 use Prim.Native.Nat.{_≤_, _-_, _*_}
 use lib.Dec.{eqb}
 use Rattle.laws.specs.Below.{allBelow}
-use Rattle.store.specs.Blocks.{isFF, filling}
+use Rattle.store.specs.Blocks.{isFF, all-ff}
 use Rattle.store.proofs.blocks.filled.Statement.{statement}
 use Rattle.store.proofs.blocks.filled.Tie as tie
 
@@ -20,14 +20,14 @@ filled-spec =
     (tie.spec
     Inv-loop
     μ-loop
-    (λ c. search (needs, filling))
-    (λ c. search (needs, filling))
-    (λ c. search (needs, filling))
-    (λ c κs. search (needs, filling))
-    (λ c. search (needs, filling))
-    (λ c. search (needs, filling))
-    (λ c. search (needs, filling))
-    (λ c. search (needs, filling))
-    (λ c. search (needs, filling))
-    (λ c. search (needs, filling))
-    (λ c. search (needs, filling)))
+    (λ c. search (needs, all-ff))
+    (λ c. search (needs, all-ff))
+    (λ c. search (needs, all-ff))
+    (λ c κs. search (needs, all-ff))
+    (λ c. search (needs, all-ff))
+    (λ c. search (needs, all-ff))
+    (λ c. search (needs, all-ff))
+    (λ c. search (needs, all-ff))
+    (λ c. search (needs, all-ff))
+    (λ c. search (needs, all-ff))
+    (λ c. search (needs, all-ff)))

@@ -6,20 +6,20 @@ use mathlib.Core.Bool.{false}
 use Prim.Native.Nat.{_≤_, _-_, _+_}
 use Rattle.laws.specs.Below.{anyBelow, any-none}
 use Rattle.update.specs.Fields.{dataSize}
-use Rattle.update.specs.Covers.{pairCount}
+use Rattle.coverage.specs.Covers.{pairCount}
 use Rattle.store.specs.Scan.{clashAt, clashRow}
-use Rattle.store.specs.ClashLaws.{Holds, more-data, more-pairs, held-data, held-pairs, clash-more, clash-stop, row-more, clash-done, clash-few, clashes}
+use Rattle.store.specs.ClashLaws.{Kept, kept-none, more-data, more-pairs, held-data, held-pairs, clash-more, clash-stop, row-more, clash-done, clash-few}
 use Rattle.store.proofs.clash.clash.Statement.{statement}
 use Rattle.store.proofs.clash.clash.Tie as tie
 
 abbrev Inv-loop : tie.InvT-loop
-Inv-loop s count starts datas pairs found₀ i a d m j₀ found j = (j ≤ i) × (found ≡ false) × (anyBelow j (clashAt s starts i) ≡ false) × Holds dataSize s starts (i + 1) datas × Holds pairCount s starts (i + 1) pairs
+Inv-loop s count starts datas pairs found₀ i a d m j₀ found j = (j ≤ i) × (found ≡ false) × (anyBelow j (clashAt s starts i) ≡ false) × Kept dataSize s starts (i + 1) datas × Kept pairCount s starts (i + 1) pairs
 
 abbrev μ-loop : tie.MeasureT-loop
 μ-loop s count starts datas pairs found₀ i a d m j₀ found j = i - j
 
 abbrev Inv-scan : tie.InvT-scan
-Inv-scan s count starts datas₀ pairs₀ found₀ i₀ datas pairs found i = (i ≤ count) × (found ≡ false) × (anyBelow i (clashRow s starts) ≡ false) × Holds dataSize s starts i datas × Holds pairCount s starts i pairs
+Inv-scan s count starts datas₀ pairs₀ found₀ i₀ datas pairs found i = (i ≤ count) × (found ≡ false) × (anyBelow i (clashRow s starts) ≡ false) × Kept dataSize s starts i datas × Kept pairCount s starts i pairs
 
 abbrev μ-scan : tie.MeasureT-scan
 μ-scan s count starts datas₀ pairs₀ found₀ i₀ datas pairs found i = count - i
@@ -65,7 +65,7 @@ clash-spec =
     Inv-scan
     μ-scan
     (λ c. clash-few _ _ _ (c .if1 .taken))
-    (λ c. search (needs, clashes))
+    (λ c. search (needs, any-none, kept-none))
     (search needs)
     (search needs)
     (search needs)

@@ -1,7 +1,7 @@
 -- `store::slot::read_slot` meets its contract, by cases of the verdict.
 use borrow.Author.Needs.{needs}
 use Rattle.store.specs.Slot.{slotOf, slotting}
-use Rattle.store.specs.SlotLaws.{verdict-blocks}
+use Rattle.update.specs.VerdictLaws.{verdict-blocks}
 use Rattle.store.proofs.slot.read_slot.Statement.{statement}
 use Rattle.store.proofs.slot.read_slot.Tie as tie
 

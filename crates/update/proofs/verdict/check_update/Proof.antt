@@ -2,8 +2,7 @@
 use borrow.Author.Needs.{needs}
 use Rattle.laws.specs.Unless.{checks}
 use Rattle.update.specs.Verdict.{verdict}
-use Rattle.update.specs.SizeLaws.{inside-of}
-use Rattle.update.specs.PairLaws.{count-is}
+use Rattle.update.specs.SizeLaws.{inside-of, entry-count-is}
 use Rattle.update.specs.VerdictLaws.{good-is}
 use Rattle.update.proofs.verdict.check_update.Statement.{statement}
 use Rattle.update.proofs.verdict.check_update.Tie as tie
@@ -19,9 +18,9 @@ check-update-spec =
     (search needs)
     (search needs)
     (search needs)
-    (λ c κs. (search inside-of, search needs, search needs, search count-is))
+    (λ c κs. (search inside-of, search needs, search needs, search entry-count-is))
     (search needs)
-    (λ c. search (checks, count-is, good-is))
+    (λ c. search (checks, entry-count-is, good-is))
     (λ c. search checks)
     (λ c. search checks)
     (λ c. search checks))

@@ -1,0 +1,22 @@
+-- `coverage::covers::flags_pos` meets its contract: the header's, or that of an entry.
+use borrow.Author.Needs.{needs}
+use Rattle.laws.specs.Tests.{cases}
+use Rattle.update.specs.Sums.{entryAt}
+use Rattle.coverage.specs.Covers.{flagsPos}
+use Rattle.coverage.proofs.covers.flags_pos.Statement.{statement}
+use Rattle.coverage.proofs.covers.flags_pos.Tie as tie
+
+pub flags-pos-spec : {M : Type 1} → statement M
+unfolding flagsPos entryAt
+flags-pos-spec =
+    tie.close
+    (tie.spec
+    (search needs)
+    (search needs)
+    (search needs)
+    (search needs)
+    (search needs)
+    (search needs)
+    (search needs)
+    (λ c. search cases)
+    (λ c. search cases))

@@ -1,0 +1,17 @@
+-- `coverage::covers::names` meets its contract: bit p of the flags.
+use borrow.Author.Needs.{needs}
+use Rattle.laws.specs.Tests.{cases}
+use Rattle.laws.specs.LowByte.{bit}
+use Rattle.coverage.specs.Covers.{names}
+use Rattle.coverage.proofs.covers.names.Statement.{statement}
+use Rattle.coverage.proofs.covers.names.Tie as tie
+
+pub names-spec : {M : Type 1} → statement M
+unfolding names bit
+names-spec =
+    tie.close
+    (tie.spec
+    (search needs)
+    (search needs)
+    (λ c. search cases)
+    (λ c. search cases))

@@ -1,0 +1,15 @@
+-- `coverage::covers::pair_covers` meets its contract: the signature, then the platform.
+use borrow.Author.Needs.{needs}
+use Rattle.laws.specs.Tests.{cases}
+use Rattle.coverage.specs.Covers.{pairCovers}
+use Rattle.coverage.proofs.covers.pair_covers.Statement.{statement}
+use Rattle.coverage.proofs.covers.pair_covers.Tie as tie
+
+pub pair-covers-spec : {M : Type 1} → statement M
+unfolding pairCovers
+pair-covers-spec =
+    tie.close
+    (tie.spec
+    (search needs)
+    (λ c. search cases)
+    (λ c. search cases))

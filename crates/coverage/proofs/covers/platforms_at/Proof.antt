@@ -1,0 +1,16 @@
+-- `coverage::covers::platforms_at` meets its contract: each pair lies inside.
+use borrow.Author.Needs.{needs}
+use Rattle.coverage.specs.Covers.{platformsAt, flagsAt}
+use Rattle.coverage.specs.PairLaws.{pairing}
+use Rattle.coverage.proofs.covers.platforms_at.Statement.{statement}
+use Rattle.coverage.proofs.covers.platforms_at.Tie as tie
+
+pub platforms-at-spec : {M : Type 1} → statement M
+unfolding platformsAt flagsAt
+platforms-at-spec =
+    tie.close
+    (tie.spec
+    (λ c κs. search pairing)
+    (λ c κs. search pairing)
+    (search needs)
+    (λ c. cc))

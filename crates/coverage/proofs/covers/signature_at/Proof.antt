@@ -1,0 +1,14 @@
+-- `coverage::covers::signature_at` meets its contract: each pair lies inside.
+use Rattle.coverage.specs.Covers.{signatureAt}
+use Rattle.coverage.specs.PairLaws.{pairing}
+use Rattle.coverage.proofs.covers.signature_at.Statement.{statement}
+use Rattle.coverage.proofs.covers.signature_at.Tie as tie
+
+pub signature-at-spec : {M : Type 1} → statement M
+unfolding signatureAt
+signature-at-spec =
+    tie.close
+    (tie.spec
+    (λ c κs. search pairing)
+    (λ c κs. search pairing)
+    (λ c. cc))

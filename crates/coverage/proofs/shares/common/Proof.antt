@@ -1,0 +1,12 @@
+-- `coverage::shares::common` meets its contract: a bit that both have.
+use mathlib.Core.Path.{sym}
+use native.Mathlib.Omega.{arith}
+use Rattle.coverage.specs.ShareLaws.{common-and}
+use Rattle.coverage.proofs.shares.common.Statement.{statement}
+use Rattle.coverage.proofs.shares.common.Tie as tie
+
+pub common-spec : {M : Type 1} → statement M
+common-spec =
+    tie.close
+    (tie.spec
+    (λ c. sym (common-and (c .args .f) (c .args .g) (omega arith))))

@@ -1,0 +1,116 @@
+// The processors that an update covers. Its pairs of a signature and flags are the header's (pair 0) and those of the entries (entry k is
+// pair k + 1). `d` is the number of data bytes, read before.
+ghost use mathlib.Core.Path.{_≡_};
+ghost use Prim.Native.Nat.{_≤_, _<_};
+ghost use Rattle.update.specs.Fields.{dataSize};
+ghost use Rattle.coverage.specs.Covers.{pairCount, signaturePos, flagsPos, signatureAt, platformsAt, names, pairCovers, coversAt, covers};
+use update::sizes;
+use update::verdict;
+
+// How many pairs there are: none where check 2 or 3 of the write fails.
+pub fn pair_count(s: &[u8]) -> u32
+    ensures { λ r. ⌜ r ≡ pairCount (now (s .entry)) ⌝ }
+{
+    if verdict::header_ok(s) {
+        let d = sizes::data_size(s);
+        let t = sizes::total_size(s);
+        let n = sizes::table_count(s, d);
+        if verdict::sizes_fit(s, d, t, n) {
+            sizes::entries_of(d, t, n) + 1
+        } else {
+            0
+        }
+    } else {
+        0
+    }
+}
+
+fn signature_pos(d: u32, i: u32) -> usize
+    requires { ⌜ i ≤ 64 ⌝ }
+    ensures { λ r. ⌜ r ≡ signaturePos d i ⌝ }
+{
+    if i == 0 {
+        12
+    } else {
+        48 + d as usize + 20 + 12 * ((i - 1) as usize)
+    }
+}
+
+fn flags_pos(d: u32, i: u32) -> usize
+    requires { ⌜ i ≤ 64 ⌝ }
+    ensures { λ r. ⌜ r ≡ flagsPos d i ⌝ }
+{
+    if i == 0 {
+        24
+    } else {
+        48 + d as usize + 20 + 12 * ((i - 1) as usize) + 4
+    }
+}
+
+pub fn signature_at(s: &[u8], d: u32, i: u32) -> u32
+    requires { ⌜ (d ≡ dataSize (now s)) × (i < pairCount (now s)) ⌝ }
+    ensures { λ r. ⌜ r ≡ signatureAt (now (s .entry)) i ⌝ }
+{
+    dwords::dword_inside(s, signature_pos(d, i))
+}
+
+// The flags that count: bits 8 to 31 are ignored.
+pub fn platforms_at(s: &[u8], d: u32, i: u32) -> u8
+    requires { ⌜ (d ≡ dataSize (now s)) × (i < pairCount (now s)) ⌝ }
+    ensures { λ r. ⌜ r ≡ platformsAt (now (s .entry)) i ⌝ }
+{
+    (dwords::dword_inside(s, flags_pos(d, i)) % 256) as u8
+}
+
+fn names(f: u8, platform: u32) -> bool
+    ensures { λ r. ⌜ r ≡ names f platform ⌝ }
+{
+    if platform < 8 {
+        (f >> platform) % 2 == 1
+    } else {
+        false
+    }
+}
+
+fn pair_covers(signature: u32, f: u8, x: u32, platform: u32) -> bool
+    ensures { λ r. ⌜ r ≡ pairCovers signature f x platform ⌝ }
+{
+    if signature == x {
+        names(f, platform)
+    } else {
+        false
+    }
+}
+
+fn covers_at(u: &[u8], d: u32, i: u32, signature: u32, platform: u32) -> bool
+    requires { ⌜ (d ≡ dataSize (now u)) × (i < pairCount (now u)) ⌝ }
+    ensures { λ r. ⌜ r ≡ coversAt (now (u .entry)) signature platform i ⌝ }
+{
+    pair_covers(
+        signature_at(u, d, i),
+        platforms_at(u, d, i),
+        signature,
+        platform,
+    )
+}
+
+// Does the update cover the processor? `n` is the number of its pairs.
+pub fn covers_with(u: &[u8], d: u32, n: u32, signature: u32, platform: u32) -> bool
+    requires { ⌜ (d ≡ dataSize (now u)) × (n ≡ pairCount (now u)) ⌝ }
+    ensures { λ r. ⌜ r ≡ covers (now (u .entry)) signature platform ⌝ }
+{
+    let mut i: u32 = 0;
+    while i < n {
+        if covers_at(u, d, i, signature, platform) {
+            return true;
+        }
+        i += 1;
+    }
+    false
+}
+
+pub fn covers(u: &[u8], signature: u32, platform: u32) -> bool
+    ensures { λ r. ⌜ r ≡ covers (now (u .entry)) signature platform ⌝ }
+{
+    covers_with(u, sizes::data_size(u), pair_count(u), signature, platform)
+}
