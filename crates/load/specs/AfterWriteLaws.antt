@@ -12,14 +12,14 @@
 --   load-refused      a refused write leaves the store, and with it every choice, as it was
 use Prim.Native.Nat.{ℕ, _*_, _<_, _≤_}
 use mathlib.Core.Path.{_≡_, refl, sym, ap, _∙_}
-use mathlib.Core.Bool.{Bool, true, false, _&&_, _||_, true≢false, or-true}
+use mathlib.Core.Bool.{Bool, true, false, _||_, true≢false, or-true}
 use mathlib.Core.List.{List}
 use native.Mathlib.Omega.{arith}
 use lib.ListN.{length, getD}
-use lib.Dec.{leb, eqb}
+use lib.Dec.{eqb}
 use borrow.Author.Tests.{lt-ltb, le-ltb, le-leb, leb-true, eqb-true, eq-eqb}
 use Rattle.laws.specs.Bools.{and-parts, and-made, no-true}
-use Rattle.laws.specs.Below.{allBelow, all-at, anyBelow, any-at, any-fails}
+use Rattle.laws.specs.Below.{all-at, anyBelow, any-at, any-fails}
 use Rattle.laws.specs.Same.{same-less}
 use Rattle.laws.specs.Unless.{unless}
 use Rattle.update.specs.Fields.{revision, totalSize}
@@ -43,6 +43,7 @@ use Rattle.calls.specs.declared.answer.Refused.{Refused as RefusedNumbers}
 use Rattle.calls.specs.declared.answer.Answer.the-variants as answers
 use Rattle.write.specs.Write.{goes, bytesAfter, writeAnswer, writeBytes}
 use Rattle.write.specs.Planned.{Planned, plan-written}
+use Rattle.write.specs.ListLaws.{good-list}
 use Rattle.write.specs.Chosen.{planned-best}
 use Rattle.write.specs.Answered.{answer-plan}
 use Rattle.view.specs.View.{dataPart}
@@ -62,16 +63,10 @@ module _ (s : List ℕ) (ok : storeOk s ≡ true) (x p : ℕ) (l : p ≤ 7) wher
   choice-none h = rw (ok, le-leb p 7 l, holder-none s ok x p h, le-ltb (blockCount s) (blockCount s) (omega arith))
 
 pub listed-platform : (signatures platforms : List ℕ) (x p : ℕ) → listOk signatures platforms ≡ true → Listed signatures platforms x p → p ≤ 7
-unfolding listOk platformOk
+unfolding platformOk
 listed-platform signatures platforms x p ok w =
-    let long = eqb (length signatures) (length platforms) in
-    let some = leb 1 (length signatures) in
-    let few = leb (length signatures) 8 in
-    let a = and-parts (long && some && few) (allBelow (length platforms) (platformOk platforms)) ok in
-    let b = and-parts (long && some) few (a .0) in
-    let c = and-parts long some (b .0) in
-    let e = eqb-true (length signatures) (length platforms) (c .0) in
-    let q = leb-true (getD platforms (w .number) 0) 7 (all-at (platformOk platforms) (length platforms) (w .number) (a .1) (omega (arith, w .within))) in
+    let g = good-list signatures platforms (listOk signatures platforms) refl ok in
+    let q = leb-true (getD platforms (w .number) 0) 7 (all-at (platformOk platforms) (length platforms) (w .number) (g .low) (omega (arith, g .same, w .within))) in
     rw (w .platform) at q
 
 -- a legal outcome, from old to new, with the set e of emptied updates

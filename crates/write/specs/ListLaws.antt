@@ -1,4 +1,7 @@
--- The processor list's rule, a return at each test (`listed`), as `search` takes it.
+-- The processor list's rule.
+--   listed                 a return at each test, as `search` takes it
+--   GoodList, good-list    what a right list says, from what a call answered
+--   list-few, list-same, list-right    parts of it
 use Prim.Native.Nat.{ℕ, _<_, _≤_}
 use mathlib.Core.Path.{_≡_, refl, sym, _∙_}
 use mathlib.Core.Bool.{Bool, true, false, _&&_}
@@ -53,8 +56,8 @@ pub ruleset listed = (list-unequal, list-none, list-many, list-platform, list-go
 -- what a right list says
 pub record GoodList (signatures platforms : List ℕ) : Type 0 where
   pub same : length signatures ≡ length platforms
-  pub some : 1 ≤ length signatures
   pub few : length signatures ≤ 8
+  pub low : allBelow (length platforms) (platformOk platforms) ≡ true
 
 pub good-list : (signatures platforms : List ℕ) (r : Bool) → r ≡ listOk signatures platforms → r ≡ true → GoodList signatures platforms
 unfolding listOk
@@ -62,7 +65,7 @@ good-list signatures platforms r e h =
     let a = and-parts (eqb (length signatures) (length platforms) && leb 1 (length signatures) && leb (length signatures) 8) (allBelow (length platforms) (platformOk platforms)) (sym e ∙ h) in
     let b = and-parts (eqb (length signatures) (length platforms) && leb 1 (length signatures)) (leb (length signatures) 8) (a .0) in
     let c = and-parts (eqb (length signatures) (length platforms)) (leb 1 (length signatures)) (b .0) in
-    record { same = eqb-true _ _ (c .0); some = leb-true _ _ (c .1); few = leb-true _ _ (b .1) }
+    record { same = eqb-true _ _ (c .0); few = leb-true _ _ (b .1); low = a .1 }
 
 pub list-few : (signatures platforms : List ℕ) → listOk signatures platforms ≡ true → length signatures ≤ 8
 list-few signatures platforms h = good-list signatures platforms (listOk signatures platforms) refl h .few

@@ -21,12 +21,12 @@ use Rattle.store.specs.ValidLaws.{store-valid}
 use Rattle.store.specs.declared.directory.Directory.{Directory}
 use Rattle.placement.specs.Held.{Held}
 use Rattle.placement.specs.Choose.{torn, choose}
-use Rattle.placement.specs.Marks.{held, marksOf, bothAt, torn-both}
+use Rattle.placement.specs.Marks.{held, marksOf, bothAt, torn-both, markAt}
 use Rattle.placement.specs.declared.Marked.{Marked}
 use Rattle.outcome.specs.Processors.{listOk}
 use Rattle.calls.specs.Answers.{refusal}
 use Rattle.calls.specs.declared.answer.Answer.{Answer}
-use Rattle.write.specs.Covered.{Covered, coveredIn, one-is}
+use Rattle.write.specs.Covered.{Covered, one-is}
 use Rattle.write.specs.Marks.{heldIn, outdated}
 use Rattle.write.specs.MarkLaws.{Marks, Agree, held-same, choose-same, shared-same, torn-same}
 use Rattle.write.specs.Write.{placed, markedAnswer, goodAnswer, judgedAnswer, planAnswer}
@@ -62,7 +62,7 @@ pub ruleset markings = (marked-outdated, marked-torn, marked-placed)
 
 -- check 5: r is what the test of the candidate's marks answered
 module _ (old signatures platforms cand : List ℕ) (k : ℕ) (marks : List Bool) (z : Answer) (r : Bool) (right : Covered signatures platforms cand marks)
-    (e : r ≡ anyBelow (length signatures) (coveredIn marks)) where
+    (e : r ≡ anyBelow (length signatures) (markAt marks)) where
   pub good-absent : r ≡ false → z ≡ refusal 0x94 0 → z ≡ goodAnswer old signatures platforms cand k
   unfolding goodAnswer unless
   good-absent h q = rw (← one-is signatures platforms cand marks right r e, h) q

@@ -7,7 +7,8 @@ ghost use Rattle.update.specs.Fields.{dataSize};
 ghost use Rattle.coverage.specs.Covers.{pairCount};
 ghost use Rattle.laws.specs.Below.{anyBelow};
 ghost use Rattle.outcome.specs.Processors.{platformOk, listOk, coversListed};
-ghost use Rattle.write.specs.Covered.{Covered, coveredIn, keepsBy};
+ghost use Rattle.placement.specs.Marks.{markAt};
+ghost use Rattle.write.specs.Covered.{Covered, keepsBy};
 use coverage::covers;
 use update::sizes;
 
@@ -75,7 +76,7 @@ pub fn covered(signatures: &[u32], platforms: &[u8], candidate: &[u8]) -> [bool;
 // Is one of the first `n` marks set?
 pub fn covers_one(marks: [bool; 8], n: usize) -> bool
     requires { ⌜ n ≤ 8 ⌝ }
-    ensures { λ r. ⌜ r ≡ anyBelow n (coveredIn marks) ⌝ }
+    ensures { λ r. ⌜ r ≡ anyBelow n (markAt marks) ⌝ }
 {
     let mut i: usize = 0;
     while i < n {

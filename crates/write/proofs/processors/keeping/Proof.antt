@@ -5,7 +5,9 @@ use Prim.Native.Nat.{_≤_, _-_}
 use lib.ListN.{length}
 use borrow.Author.Needs.{needs}
 use Rattle.laws.specs.Below.{anyBelow}
-use Rattle.write.specs.Covered.{keepsBy, marking}
+use Rattle.laws.specs.Loops.{scan}
+use Rattle.placement.specs.Marks.{markAt}
+use Rattle.write.specs.Covered.{keepsBy}
 use Rattle.write.proofs.processors.keeping.Statement.{statement}
 use Rattle.write.proofs.processors.keeping.Tie as tie
 
@@ -16,16 +18,17 @@ abbrev μ-loop : tie.MeasureT-loop
 μ-loop signatures platforms u d n marks i₀ i = length signatures - i
 
 pub keeping-spec : {M : Type 1} → statement M
+unfolding keepsBy markAt
 keeping-spec =
     tie.close
     (tie.spec
     Inv-loop
     μ-loop
-    (λ c. search (needs, marking))
+    (λ c. search (needs, scan))
     (λ c. search needs)
     (λ c κs. search needs)
-    (λ c. search (needs, marking))
+    (λ c. search (needs, scan))
     (λ c. search needs)
     (λ c. search needs)
-    (λ c. search (needs, marking))
-    (λ c. search (needs, marking)))
+    (λ c. search (needs, scan))
+    (λ c. search (needs, scan)))
