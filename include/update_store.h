@@ -11,7 +11,7 @@
  *     update_store_load    which stored update a processor gets at start-up
  *
  * Both work on bytes that the caller lends. The library keeps no state and allocates nothing. Of the
- * C library it needs memcpy and memset only, which the compiler calls for copies and fills. Driving
+ * C library it needs memmove and memset only, which the compiler calls for copies and fills. Driving
  * the flash chip and loading a processor are the caller's own work.
  *
  * THE ANSWER. `answer` points to 16 words. Every call, refused or not, writes all 16; a word
