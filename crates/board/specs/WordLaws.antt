@@ -1,6 +1,6 @@
 -- Laws of the answer words.
 --   Choice, chosen    a valid update begins at a chosen start
---   Inside, load-inside, load-small    the chosen update begins below block 32
+--   StartBelow32, load-inside, load-small    the chosen update begins below block 32
 --   load-part      the offset and the number of the words name a part of the store, and it is the chosen data
 --   rowOf          the words of all cases but presence
 --   wording, load-wording    the words of each case, as `search` takes them
@@ -34,10 +34,10 @@ use Rattle.view.specs.View.{dataPart}
 use Rattle.load.specs.Load.{holds, holder, chosenAt, found, loadChoice, chosenData}
 use Rattle.load.specs.declared.LoadChoice.{LoadChoice}
 use Rattle.load.specs.declared.LoadChoice.the-variants as choice
-use Rattle.board.specs.Words.{bit, answerWords, loadWords}
+use Rattle.board.specs.Words.{flagWord, answerWords, loadWords}
 
-unfoldable pub Inside : LoadChoice → Type 0
-Inside c = (b r : ℕ) → c ≡ choice.Chosen b r → b < 32
+unfoldable pub StartBelow32 : LoadChoice → Type 0
+StartBelow32 c = (b r : ℕ) → c ≡ choice.Chosen b r → b < 32
 
 -- a choice, taken apart: the store is valid, and an update begins at the start
 pub record Choice (s : List ℕ) (b : ℕ) : Type 0 where
@@ -63,8 +63,8 @@ chosen loading s x p b r e = go (storeOk s) refl (leb p 7) loading e
         let h = and-parts (first s (holder s x p)) (covers (fromBlock s (holder s x p)) x p) (first-is (blockCount s) (holds s x p) .passes (y .1)) in
         rw (← y .0) (record { ok = k; below = y .1; begun = h .0 })
 
-pub load-inside : (c : LoadChoice) (loading : Bool) (s : List ℕ) (x p : ℕ) → c ≡ loadChoice loading s x p → Inside c
-unfolding Inside
+pub load-inside : (c : LoadChoice) (loading : Bool) (s : List ℕ) (x p : ℕ) → c ≡ loadChoice loading s x p → StartBelow32 c
+unfolding StartBelow32
 load-inside c loading s x p e b r h = let y = chosen loading s x p b r (sym h ∙ e) in omega (arith, y .below, store-valid s (y .ok) .few)
 
 -- the offset and the number of the words name a part of the store, and it is the chosen data
@@ -84,10 +84,10 @@ load-part loading s x p b r e =
 -- the common words, four numbers of the case, and 0 behind them; `on` is the word of the loading state
 unfoldable pub rowOf : ℕ → ℕ → ℕ → ℕ → ℕ → ℕ → ℕ → ℕ → List ℕ
 rowOf ah al on case n0 n1 n2 n3 =
-    ah ∷ al ∷ bit (not (eqb ah 0)) ∷ on ∷ case ∷ n0 ∷ n1 ∷ n2 ∷ n3 ∷ 0 ∷ 0 ∷ 0 ∷ 0 ∷ 0 ∷ 0 ∷ 0 ∷ []
+    ah ∷ al ∷ flagWord (not (eqb ah 0)) ∷ on ∷ case ∷ n0 ∷ n1 ∷ n2 ∷ n3 ∷ 0 ∷ 0 ∷ 0 ∷ 0 ∷ 0 ∷ 0 ∷ 0 ∷ []
 
 -- the words r of each case
-module _ (a : Answer) (loading : Bool) (on : ℕ) (e : on ≡ bit loading) where
+module _ (a : Answer) (loading : Bool) (on : ℕ) (e : on ≡ flagWord loading) where
   pub presence-words : (p : PresenceNumbers) → a ≡ Presence p
       → (0 ∷ 0 ∷ 0 ∷ on ∷ 0 ∷ p .byte0 ∷ p .byte1 ∷ p .byte2 ∷ p .byte3 ∷ p .byte4 ∷ p .byte5 ∷ p .byte6 ∷ p .byte7 ∷ p .«loader_version» ∷ p .blocks ∷ 0 ∷ []) ≡ answerWords a loading
   unfolding answerWords
@@ -113,7 +113,7 @@ module _ (a : Answer) (loading : Bool) (on : ℕ) (e : on ≡ bit loading) where
 pub ruleset wording = (presence-words, written-words, control-words, read-words, refused-words)
 
 -- the words r of each load choice
-module _ (c : LoadChoice) (loading : Bool) (s : List ℕ) (on : ℕ) (e : on ≡ bit loading) (r : List ℕ) where
+module _ (c : LoadChoice) (loading : Bool) (s : List ℕ) (on : ℕ) (e : on ≡ flagWord loading) (r : List ℕ) where
   pub load-refused-words : (ah al : ℕ) → c ≡ choice.Refused ah al → r ≡ rowOf ah al on 2 0 0 0 0 → r ≡ loadWords loading s c
   unfolding loadWords rowOf
   load-refused-words ah al h k = k ∙ rw (h, e)
@@ -126,8 +126,8 @@ module _ (c : LoadChoice) (loading : Bool) (s : List ℕ) (on : ℕ) (e : on ≡
   unfolding loadWords rowOf
   load-chosen-words b v d u h f q k = k ∙ rw (h, e, q, f)
 
-pub load-small : (c : LoadChoice) (b r : ℕ) → Inside c → c ≡ choice.Chosen b r → b < 32
-unfolding Inside
+pub load-small : (c : LoadChoice) (b r : ℕ) → StartBelow32 c → c ≡ choice.Chosen b r → b < 32
+unfolding StartBelow32
 load-small c b r i h = i b r h
 
 pub ruleset load-wording = (load-refused-words, load-nothing-words, load-chosen-words)

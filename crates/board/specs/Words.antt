@@ -1,5 +1,5 @@
 -- The answer words of the board's C interface: 16 words, and the image of AX.
---   bit           1 for true, 0 for false
+--   flagWord      1 for true, 0 for false
 --   padded        the words, and 0 behind them up to 16
 --   axOf          AH * 256 + AL
 --   answerWords   AH, AL, carry, the loading state after the call, the case, and the case's numbers
@@ -21,8 +21,8 @@ use Rattle.calls.specs.declared.answer.Reply.{Reply}
 use Rattle.load.specs.declared.LoadChoice.{LoadChoice}
 use Rattle.load.specs.declared.LoadChoice.the-variants.{Refused, Nothing, Chosen}
 
-abbrev pub bit : Bool → ℕ
-bit b = cond b 1 0
+abbrev pub flagWord : Bool → ℕ
+flagWord b = cond b 1 0
 
 abbrev pub padded : List ℕ → List ℕ
 padded l = l ++ replicate (16 - length l) 0
@@ -31,7 +31,7 @@ unfoldable pub axOf : Answer → ℕ
 axOf a = ahOf a * 256 + alOf a
 
 unfoldable pub answerWords : Answer → Bool → List ℕ
-answerWords a loading = padded (ahOf a ∷ alOf a ∷ bit (carryOf a) ∷ bit loading ∷ caseOf a ∷ numbersOf a)
+answerWords a loading = padded (ahOf a ∷ alOf a ∷ flagWord (carryOf a) ∷ flagWord loading ∷ caseOf a ∷ numbersOf a)
 
 abbrev pub callWords : Reply → List ℕ
 callWords r = answerWords (r .answer) (r .loading)
@@ -61,4 +61,4 @@ loadAx c = loadAh c * 256 + loadAl c
 
 unfoldable pub loadWords : Bool → List ℕ → LoadChoice → List ℕ
 loadWords loading s c =
-    padded (loadAh c ∷ loadAl c ∷ bit (not (eqb (loadAh c) 0)) ∷ bit loading ∷ loadCase c ∷ loadNumbers s c)
+    padded (loadAh c ∷ loadAl c ∷ flagWord (not (eqb (loadAh c) 0)) ∷ flagWord loading ∷ loadCase c ∷ loadNumbers s c)

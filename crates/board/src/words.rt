@@ -2,23 +2,23 @@
 ghost use mathlib.Core.Path.{_≡_};
 ghost use mathlib.Core.Bool.{not};
 ghost use lib.Dec.{eqb};
-ghost use Rattle.board.specs.Words.{bit, axOf, answerWords, loadAx, loadWords};
-ghost use Rattle.board.specs.WordLaws.{rowOf, Inside};
+ghost use Rattle.board.specs.Words.{flagWord, axOf, answerWords, loadAx, loadWords};
+ghost use Rattle.board.specs.WordLaws.{rowOf, StartBelow32};
 use calls::answer::Answer;
 use load::LoadChoice;
 use store::blocks;
 use update::sizes;
 
 // 1 for true, 0 for false.
-fn bit(x: bool) -> u32
-    ensures { λ r. ⌜ r ≡ bit x ⌝ }
+fn flag_word(x: bool) -> u32
+    ensures { λ r. ⌜ r ≡ flagWord x ⌝ }
 {
     if x { 1 } else { 0 }
 }
 
 // Carry is set exactly if AH is not 0.
 fn carry(ah: u8) -> u32
-    ensures { λ r. ⌜ r ≡ bit (not (eqb ah 0)) ⌝ }
+    ensures { λ r. ⌜ r ≡ flagWord (not (eqb ah 0)) ⌝ }
 {
     if ah == 0 { 0 } else { 1 }
 }
@@ -60,7 +60,7 @@ pub fn ax(a: Answer) -> u32
 pub fn call_words(a: Answer, loading: bool, answer: &mut [u32; 16])
     ensures { λ _. ⌜ now (answer .exit) ≡ answerWords a loading ⌝ }
 {
-    let on = bit(loading);
+    let on = flag_word(loading);
     match a {
         Answer::Presence(p) => {
             *answer = [
@@ -105,10 +105,10 @@ pub fn load_ax(c: LoadChoice) -> u32
 
 // Writes the words of a load choice.
 pub fn load_words(c: LoadChoice, loading: bool, store: &[u8], answer: &mut [u32; 16])
-    requires { ⌜ Inside c ⌝ }
+    requires { ⌜ StartBelow32 c ⌝ }
     ensures { λ _. ⌜ now (answer .exit) ≡ loadWords loading (now (store .entry)) c ⌝ }
 {
-    let on = bit(loading);
+    let on = flag_word(loading);
     match c {
         LoadChoice::Refused { ah, al } => put(answer, ah, al, on, 2, 0, 0, 0, 0),
         LoadChoice::Nothing => put(answer, 0, 0, on, 0, 0, 0, 0, 0),

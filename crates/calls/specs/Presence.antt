@@ -2,18 +2,15 @@
 --   present           the answer, for N blocks
 --   presenceAnswer    the answer of the call
 --   presenting        its cases, as `search` takes them
---   store-small       a valid store has at most 65,536 bytes
-use Prim.Native.Nat.{ℕ, _/_, _≤_}
-use mathlib.Core.Path.{_≡_, sym, _∙_}
+use Prim.Native.Nat.{ℕ, _/_}
+use mathlib.Core.Path.{_≡_}
 use mathlib.Core.Bool.{true, false}
 use mathlib.Core.List.{List}
-use native.Mathlib.Omega.{arith}
 use lib.ListN.{length}
 use Rattle.laws.specs.Unless.{unless, unless-pass, unless-stop}
 use Rattle.store.specs.Blocks.{blockCount}
 use Rattle.store.specs.Scan.{storeOk, directory}
 use Rattle.store.specs.StoreLaws.{directory-ok}
-use Rattle.store.specs.ValidLaws.{store-valid}
 use Rattle.store.specs.declared.directory.Directory.{Directory}
 use Rattle.calls.specs.Answers.{refusal}
 use Rattle.calls.specs.declared.answer.Answer.{Answer}
@@ -49,7 +46,3 @@ module _ (s : List ℕ) (d : Directory) (z : Answer) (e : d ≡ directory s) whe
   presence-no h k = unless-stop (d .ok) (storeOk s) z (refusal 0x92 1) (present (blockCount s)) (directory-ok s d e) h k
 
 pub ruleset presenting = (presence-yes, presence-no)
-
--- a valid store has at most 65,536 bytes
-pub store-small : (s : List ℕ) (d : Directory) → d ≡ directory s → d .ok ≡ true → length s ≤ 65536
-store-small s d e h = let v = store-valid s (sym (directory-ok s d e) ∙ h) in omega (arith, v .long, v .few)

@@ -2,7 +2,7 @@
 --   kinds, reading    the cases, as `search` takes them
 --   copied            the copy, as `search` takes it
 use Prim.Native.Nat.{ℕ, _+_, _*_, _/_, _<_, _≤_}
-use mathlib.Core.Path.{_≡_, refl, sym, _∙_}
+use mathlib.Core.Path.{_≡_, refl, _∙_}
 use mathlib.Core.Bool.{Bool, true, false}
 use mathlib.Core.List.{List}
 use native.Mathlib.Omega.{arith}
@@ -15,7 +15,7 @@ use Rattle.store.specs.Blocks.{blockCount, fromBlock}
 use Rattle.store.specs.Scan.{slotAt, begins, storeOk, directory}
 use Rattle.store.specs.Kind.{kindOf, kindAt, kindIn}
 use Rattle.store.specs.SlotLaws.{slot-inside, unused-filled}
-use Rattle.store.specs.StoreLaws.{directory-ok}
+use Rattle.store.specs.StoreLaws.{directory-ok, directory-good}
 use Rattle.store.specs.DirectoryLaws.{kind-law}
 use Rattle.store.specs.declared.directory.Directory.{Directory}
 use Rattle.store.specs.declared.slot.Slot.{Slot}
@@ -56,7 +56,7 @@ module _ (s : List ℕ) (d : Directory) (b m : ℕ) (z : Answer) (e : d ≡ dire
   pub read-kind : (j : Kind) → d .ok ≡ true → b < length s / 2048 → j ≡ kindIn d b → z ≡ readKind j m → z ≡ readAnswer s b m
   unfolding readAnswer unless blockCount
   read-kind j h l k q =
-      let ok = sym (directory-ok s d e) ∙ h in
+      let ok = directory-good s d e h in
       q ∙ rw (k, kind-law s ok d e b l, ok, lt-ltb b (length s / 2048) l)
 
 pub ruleset reading = (read-bad, read-number, read-kind)

@@ -18,11 +18,11 @@ use Rattle.laws.specs.Unless.{unless}
 use Rattle.laws.specs.LowByte.{bit}
 use Rattle.dwords.specs.Dword.{dword}
 use Rattle.dwords.specs.Sum.{dwordsOf, total, dwordSum}
-use Rattle.update.specs.Fields.{dataOf, totalOf, dataSize, totalSize}
+use Rattle.update.specs.Fields.{dataSizeOf, totalSizeOf, dataSize, totalSize}
 use Rattle.update.specs.Sizes.{sizesOk, tableCount, entriesOf, entryCount, blocksOf}
-use Rattle.update.specs.Sums.{sumOf, headerSum, entryAt, entryOk, table, sumsOk}
+use Rattle.update.specs.Sums.{sumOf, headerSum, entryOffset, entryOk, table, sumsOk}
 use Rattle.update.specs.Verdict.{headerOk, sizesFit, verdict}
-use Rattle.coverage.specs.Covers.{pairCount, signaturePos, flagsPos, signatureAt, flagsAt, platformsAt, names, pairCovers, coversAt, covers}
+use Rattle.coverage.specs.Covers.{pairCount, signatureOffset, flagsOffset, signatureAt, flagsAt, platformsAt, names, pairCovers, coversAt, covers}
 use Rattle.placement.specs.Held.{Held}
 use Rattle.placement.specs.Choose.{touches, goes, bars, loses, barred, lost, choose}
 use Rattle.calls.specs.Answers.{refusal}
@@ -79,7 +79,7 @@ pub record Starred : Type 0 where
   pub needed-stale-needed-stale : answer 4 2 alternating ≡ refusal 0x93 5
 
 pub starred : Starred
-unfolding p bytes verdict unless headerOk sizesFit sumsOk table dwordSum dwordsOf total dword dataSize totalSize dataOf totalOf sizesOk tableCount entriesOf entryCount blocksOf allBelow entryOk entryAt sumOf headerSum covers coversAt pairCovers pairCount signatureAt signaturePos platformsAt flagsAt flagsPos names bit anyBelow answer stored stale-first two-stale alternating placed choose least barred bars goes touches lost loses countBelow
+unfolding p bytes verdict unless headerOk sizesFit sumsOk table dwordSum dwordsOf total dword dataSize totalSize dataSizeOf totalSizeOf sizesOk tableCount entriesOf entryCount blocksOf allBelow entryOk entryOffset sumOf headerSum covers coversAt pairCovers pairCount signatureAt signatureOffset platformsAt flagsAt flagsOffset names bit anyBelow answer stored stale-first two-stale alternating placed choose least barred bars goes touches lost loses countBelow
 starred =
     record {
       p-is-valid = refl;

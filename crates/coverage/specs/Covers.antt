@@ -1,7 +1,7 @@
 -- Which processors an update covers (document 01, "The update"): the header and the entries are its pairs of a signature and flags. Pair 0
 -- is the header's, pair k + 1 that of entry k.
 --   pairCount                     how many pairs: none where check 2 or 3 fails
---   signaturePos, flagsPos        where they stand
+--   signatureOffset, flagsOffset        where they stand
 --   signatureAt, flagsAt          the fields of pair i, as stored
 --   platformsAt                   the flags of pair i that count: bits 8 to 31 are ignored
 --   names                         the flags f name platform p, 0 to 7
@@ -19,24 +19,24 @@ use Rattle.laws.specs.LowByte.{bit}
 use Rattle.dwords.specs.Dword.{dword}
 use Rattle.update.specs.Fields.{dataSize}
 use Rattle.update.specs.Sizes.{entryCount}
-use Rattle.update.specs.Sums.{entryAt}
+use Rattle.update.specs.Sums.{entryOffset}
 use Rattle.update.specs.Verdict.{headerOk, sizesFit}
 
 unfoldable pub pairCount : List ℕ → ℕ
 pairCount s = unless (headerOk s) 0 (unless (sizesFit s) 0 (entryCount s + 1))
 
 -- where the two fields of pair i stand, behind d data bytes
-unfoldable pub signaturePos : ℕ → ℕ → ℕ
-signaturePos d i = cond (eqb i 0) 12 (entryAt d (i - 1))
+unfoldable pub signatureOffset : ℕ → ℕ → ℕ
+signatureOffset d i = cond (eqb i 0) 12 (entryOffset d (i - 1))
 
-unfoldable pub flagsPos : ℕ → ℕ → ℕ
-flagsPos d i = cond (eqb i 0) 24 (entryAt d (i - 1) + 4)
+unfoldable pub flagsOffset : ℕ → ℕ → ℕ
+flagsOffset d i = cond (eqb i 0) 24 (entryOffset d (i - 1) + 4)
 
 unfoldable pub signatureAt : List ℕ → ℕ → ℕ
-signatureAt s i = dword s (signaturePos (dataSize s) i)
+signatureAt s i = dword s (signatureOffset (dataSize s) i)
 
 unfoldable pub flagsAt : List ℕ → ℕ → ℕ
-flagsAt s i = dword s (flagsPos (dataSize s) i)
+flagsAt s i = dword s (flagsOffset (dataSize s) i)
 
 unfoldable pub platformsAt : List ℕ → ℕ → ℕ
 platformsAt s i = flagsAt s i % 256

@@ -16,7 +16,7 @@ use Rattle.update.specs.Verdict.{verdict}
 use Rattle.update.specs.VerdictLaws.{Judged, judged}
 use Rattle.update.specs.Local.{verdict-local, data-local}
 use Rattle.update.specs.declared.verdict.Verdict.the-variants.{Good}
-use Rattle.coverage.specs.Covers.{pairCount, signaturePos, flagsPos, signatureAt, flagsAt, platformsAt, coversAt, covers}
+use Rattle.coverage.specs.Covers.{pairCount, signatureOffset, flagsOffset, signatureAt, flagsAt, platformsAt, coversAt, covers}
 use Rattle.coverage.specs.Shares.{Shares}
 use Rattle.coverage.specs.PairLaws.{pair-inside, pairs-made}
 
@@ -38,11 +38,11 @@ module _ (s r : List ℕ) (t d n k : ℕ) (good : verdict s ≡ Good t d n k) (s
 
   signature-local : (i : ℕ) → i < pairCount s → signatureAt s i ≡ signatureAt r i
   unfolding signatureAt
-  signature-local i l = rw (← data-same) (dword-same s r t (signaturePos (dataSize s) i) same (omega (arith, pair-inside s i l .signature, here .total)))
+  signature-local i l = rw (← data-same) (dword-same s r t (signatureOffset (dataSize s) i) same (omega (arith, pair-inside s i l .signature, here .total)))
 
   platforms-local : (i : ℕ) → i < pairCount s → platformsAt s i ≡ platformsAt r i
   unfolding platformsAt flagsAt
-  platforms-local i l = rw (← data-same, dword-same s r t (flagsPos (dataSize s) i) same (omega (arith, pair-inside s i l .flags, here .total)))
+  platforms-local i l = rw (← data-same, dword-same s r t (flagsOffset (dataSize s) i) same (omega (arith, pair-inside s i l .flags, here .total)))
 
   pub covers-local : (x p : ℕ) → covers s x p ≡ covers r x p
   unfolding covers coversAt

@@ -14,10 +14,10 @@ use borrow.Author.Tests.{ne-eqb}
 use Rattle.laws.specs.Unless.{unless}
 use Rattle.update.specs.Fields.{dataSize, totalSize}
 use Rattle.update.specs.Sizes.{entryCount}
-use Rattle.update.specs.Sums.{entryAt}
+use Rattle.update.specs.Sums.{entryOffset}
 use Rattle.update.specs.Verdict.{headerOk, sizesFit}
 use Rattle.update.specs.SizeLaws.{inside, entry-count-is}
-use Rattle.coverage.specs.Covers.{pairCount, signaturePos, flagsPos}
+use Rattle.coverage.specs.Covers.{pairCount, signatureOffset, flagsOffset}
 
 module _ (s : List ℕ) where
   -- what an update with pairs has passed
@@ -40,13 +40,13 @@ module _ (s : List ℕ) where
   pairs-made h k = rw (h, k)
 
   pub record PairInside (i : ℕ) : Type 0 where
-    pub signature : signaturePos (dataSize s) i + 4 ≤ totalSize s
-    pub flags : flagsPos (dataSize s) i + 4 ≤ totalSize s
+    pub signature : signatureOffset (dataSize s) i + 4 ≤ totalSize s
+    pub flags : flagsOffset (dataSize s) i + 4 ≤ totalSize s
     pub lent : totalSize s ≤ length s
     pub few : i ≤ 64
 
   pub pair-inside : (i : ℕ) → i < pairCount s → PairInside i
-  unfolding signaturePos flagsPos entryAt
+  unfolding signatureOffset flagsOffset entryOffset
   pair-inside zero l =
       let p = paired l in
       let y = inside s (p .sizes) in
@@ -68,10 +68,10 @@ module _ (s : List ℕ) where
     pair-few = pair-inside i l .few
 
     module _ (d : ℕ) (e : d ≡ dataSize s) where
-      pub signature-inside : (r : ℕ) → r ≡ signaturePos d i → r + 4 ≤ length s
+      pub signature-inside : (r : ℕ) → r ≡ signatureOffset d i → r + 4 ≤ length s
       signature-inside r q = let p = pair-inside i l in rw (q, e) (omega (arith, p .signature, p .lent))
 
-      pub flags-inside : (r : ℕ) → r ≡ flagsPos d i → r + 4 ≤ length s
+      pub flags-inside : (r : ℕ) → r ≡ flagsOffset d i → r + 4 ≤ length s
       flags-inside r q = let p = pair-inside i l in rw (q, e) (omega (arith, p .flags, p .lent))
 
   -- the count of pairs, from what the two checks answered

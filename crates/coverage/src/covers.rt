@@ -3,7 +3,7 @@
 ghost use mathlib.Core.Path.{_≡_};
 ghost use Prim.Native.Nat.{_≤_, _<_};
 ghost use Rattle.update.specs.Fields.{dataSize};
-ghost use Rattle.coverage.specs.Covers.{pairCount, signaturePos, flagsPos, signatureAt, platformsAt, names, pairCovers, coversAt, covers};
+ghost use Rattle.coverage.specs.Covers.{pairCount, signatureOffset, flagsOffset, signatureAt, platformsAt, names, pairCovers, coversAt, covers};
 use update::sizes;
 use update::verdict;
 
@@ -25,9 +25,9 @@ pub fn pair_count(s: &[u8]) -> u32
     }
 }
 
-fn signature_pos(d: u32, i: u32) -> usize
+fn signature_offset(d: u32, i: u32) -> usize
     requires { ⌜ i ≤ 64 ⌝ }
-    ensures { λ r. ⌜ r ≡ signaturePos d i ⌝ }
+    ensures { λ r. ⌜ r ≡ signatureOffset d i ⌝ }
 {
     if i == 0 {
         12
@@ -36,9 +36,9 @@ fn signature_pos(d: u32, i: u32) -> usize
     }
 }
 
-fn flags_pos(d: u32, i: u32) -> usize
+fn flags_offset(d: u32, i: u32) -> usize
     requires { ⌜ i ≤ 64 ⌝ }
-    ensures { λ r. ⌜ r ≡ flagsPos d i ⌝ }
+    ensures { λ r. ⌜ r ≡ flagsOffset d i ⌝ }
 {
     if i == 0 {
         24
@@ -51,7 +51,7 @@ pub fn signature_at(s: &[u8], d: u32, i: u32) -> u32
     requires { ⌜ (d ≡ dataSize (now s)) × (i < pairCount (now s)) ⌝ }
     ensures { λ r. ⌜ r ≡ signatureAt (now (s .entry)) i ⌝ }
 {
-    dwords::dword_inside(s, signature_pos(d, i))
+    dwords::dword_inside(s, signature_offset(d, i))
 }
 
 // The flags that count: bits 8 to 31 are ignored.
@@ -59,7 +59,7 @@ pub fn platforms_at(s: &[u8], d: u32, i: u32) -> u8
     requires { ⌜ (d ≡ dataSize (now s)) × (i < pairCount (now s)) ⌝ }
     ensures { λ r. ⌜ r ≡ platformsAt (now (s .entry)) i ⌝ }
 {
-    (dwords::dword_inside(s, flags_pos(d, i)) % 256) as u8
+    (dwords::dword_inside(s, flags_offset(d, i)) % 256) as u8
 }
 
 fn names(f: u8, platform: u32) -> bool

@@ -18,7 +18,7 @@ use Rattle.coverage.specs.Covers.{covers}
 use Rattle.coverage.specs.ShareLaws.{covers-platform}
 use Rattle.store.specs.Blocks.{fromBlock, blockCount}
 use Rattle.store.specs.Scan.{first, storeOk, directory}
-use Rattle.store.specs.StoreLaws.{directory-ok}
+use Rattle.store.specs.StoreLaws.{directory-ok, directory-good}
 use Rattle.store.specs.ValidLaws.{store-valid}
 use Rattle.store.specs.DirectoryLaws.{startOf, listing}
 use Rattle.store.specs.declared.directory.Directory.{Directory}
@@ -60,7 +60,7 @@ module _ (s u : List ℕ) (d : Directory) (x p i start : ℕ) (r : Bool) (e : d 
   pub find-stop : (v : ℕ) → i < d .count → r ≡ true → v ≡ revision u → Chosen start v ≡ found s x p
   unfolding found chosenAt unless
   find-stop v l k q =
-      let good = sym (directory-ok s d e) ∙ ok in
+      let good = directory-good s d e ok in
       let y = listing s good d e in
       let b : start < blockCount s = rw st (omega (arith, y .ends i l, y .some i l)) in
       rw (holder-one s good x p start b (rw st (y .begin i l)) (rw (← part) (sym h ∙ k)), lt-ltb start (blockCount s) b, q, part)
@@ -68,7 +68,7 @@ module _ (s u : List ℕ) (d : Directory) (x p i start : ℕ) (r : Bool) (e : d 
 pub find-done : (s : List ℕ) (d : Directory) (x p i : ℕ) → d ≡ directory s → d .ok ≡ true → anyBelow i (coversEntry s d x p) ≡ false → i ≤ d .count → d .count ≤ i → Nothing ≡ found s x p
 unfolding found chosenAt unless coversEntry
 find-done s d x p i e ok none l m =
-    let good = sym (directory-ok s d e) ∙ ok in
+    let good = directory-good s d e ok in
     let y = listing s good d e in
     rw (holder-none s good x p (λ b q f. let w = y .every b q f in rw (w .2) at (any-fails (coversEntry s d x p) i (w .0) none (omega (arith, w .1)))), le-ltb (blockCount s) (blockCount s) (omega arith))
 

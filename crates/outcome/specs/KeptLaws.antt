@@ -31,7 +31,7 @@ use Rattle.outcome.specs.Legal.{Legal}
 use Rattle.outcome.specs.Bytes.{emptiedAt, inRun, outcomeBytes}
 use Rattle.outcome.specs.After.{kept}
 use Rattle.outcome.specs.ByteLaws.{emptied-at, run-at, at-run, outcome-length, outcome-kept, at-emptied}
-use Rattle.outcome.specs.FreeLaws.{free-unowned}
+use Rattle.store.specs.KindLaws.{free-unowned}
 
 module _ (old : List ℕ) (e : ℕ → Bool) (b : ℕ) where
   pub kept-parts : kept old e b ≡ true → (first old b ≡ true) × (e b ≡ false)

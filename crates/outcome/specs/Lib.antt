@@ -4,7 +4,6 @@ pub mod Legal
 pub mod Bytes
 pub mod After
 pub mod ByteLaws
-pub mod FreeLaws
 pub mod KeptLaws
 pub mod PlacedLaws
 pub mod AfterLaws

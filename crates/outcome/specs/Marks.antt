@@ -1,4 +1,5 @@
 -- The set of emptied updates as the code has it: marks beside the directory's entries.
+--   markedEntry      entry i is marked, and block b is its first
 --   marked           the first blocks of the marked entries
 --   Entries          the first n entries are updates of the store, and lie in it
 --   emptyIf          an update filled with FFh, if it is marked
@@ -33,11 +34,11 @@ use Rattle.outcome.specs.Bytes.{outcomeBytes}
 use Rattle.outcome.specs.Cleared.{cleared, cleared-none, cleared-same, cleared-more, outcome-made}
 
 -- entry i begins at block b and is marked
-unfoldable pub markAt : List ℕ → List Bool → ℕ → ℕ → Bool
-markAt starts gone b i = getD gone i false && eqb (getD starts i 0) b
+unfoldable pub markedEntry : List ℕ → List Bool → ℕ → ℕ → Bool
+markedEntry starts gone b i = getD gone i false && eqb (getD starts i 0) b
 
 unfoldable pub marked : List ℕ → List Bool → ℕ → ℕ → Bool
-marked starts gone n b = anyBelow n (markAt starts gone b)
+marked starts gone n b = anyBelow n (markedEntry starts gone b)
 
 pub record Entries (s starts sizes : List ℕ) (n : ℕ) : Type 0 where
   pub few : n ≤ 32
@@ -58,9 +59,9 @@ entries-of s d listing e = record {
 
 pub marked-first : (starts : List ℕ) (gone : List Bool) (count b : ℕ) → marked starts gone count b ≡ true
     → (i : ℕ) × (i < count) × (getD starts i 0 ≡ b) × (getD gone i false ≡ true)
-unfolding marked markAt
+unfolding marked markedEntry
 marked-first starts gone count b h =
-    let w = any-at (markAt starts gone b) count h in
+    let w = any-at (markedEntry starts gone b) count h in
     let x = and-parts (getD gone (w .0) false) (eqb (getD starts (w .0) 0) b) (w .2) in
     (w .0, w .1, eqb-true (getD starts (w .0) 0) b (x .1), x .0)
 
@@ -74,11 +75,11 @@ module _ (s : List ℕ) (d : Directory) (gone : List Bool) (listing : Listing s 
       (le-or-lt j i)
 
   pub marked-at : (i : ℕ) → i < d .count → marked (d .starts) gone (d .count) (getD (d .starts) i 0) ≡ getD gone i false
-  unfolding marked markAt
+  unfolding marked markedEntry
   marked-at i l =
       bool-same (marked (d .starts) gone (d .count) (getD (d .starts) i 0)) (getD gone i false)
       (λ h. let w = marked-first (d .starts) gone (d .count) (getD (d .starts) i 0) h in ap (λ (j : ℕ). getD gone j false) (sym (one-start i (w .0) l (w .1) (w .2))) ∙ w .3)
-      (λ h. any-stop (markAt (d .starts) gone (getD (d .starts) i 0)) (d .count) i l (and-made h (eq-eqb (getD (d .starts) i 0) (getD (d .starts) i 0) refl)))
+      (λ h. any-stop (markedEntry (d .starts) gone (getD (d .starts) i 0)) (d .count) i l (and-made h (eq-eqb (getD (d .starts) i 0) (getD (d .starts) i 0) refl)))
 
 pub empty-yes : (t : Bool) (s r : List ℕ) (b k : ℕ) → r ≡ fillAt s (b * 2048) (k * 2048) → t ≡ true → r ≡ emptyIf t s b k
 unfolding emptyIf unless
@@ -95,25 +96,24 @@ module _ (old starts sizes : List ℕ) (gone : List Bool) where
   unfolding marked anyBelow
   marks-start = cleared-none old (marked starts gone 0) (λ b. refl)
 
-  -- b and k are the start and the size of entry i
-  pub marks-more : (n i b k : ℕ) (s r : List ℕ) → r ≡ emptyIf (getD gone i false) s b k → s ≡ cleared old (marked starts gone i) → b ≡ getD starts i 0 → k ≡ getD sizes i 0
-      → Entries old starts sizes n → i < n → r ≡ cleared old (marked starts gone (i + 1))
-  unfolding marked markAt anyBelow emptyIf unless
-  marks-more n i b k s r h e p q d l = h ∙ rw (p, q, e, add-one i) (go (getD gone i false) refl)
+  pub marks-more : (n i : ℕ) (s r : List ℕ) → Entries old starts sizes n → i < n → s ≡ cleared old (marked starts gone i)
+      → r ≡ emptyIf (getD gone i false) s (getD starts i 0) (getD sizes i 0) → r ≡ cleared old (marked starts gone (i + 1))
+  unfolding marked markedEntry anyBelow emptyIf unless
+  marks-more n i s r d l e h = h ∙ rw (e, add-one i) (go (getD gone i false) refl)
     where
       go : (t : Bool) → getD gone i false ≡ t
           → emptyIf t (cleared old (marked starts gone i)) (getD starts i 0) (getD sizes i 0) ≡ cleared old (marked starts gone (suc i))
       go true q =
           cleared-more old (marked starts gone i) (marked starts gone (suc i)) (getD starts i 0) (getD sizes i 0) (d .begin i l) (d .sized i l) (d .ends i l)
-          (rw (q, eq-eqb (getD starts i 0) (getD starts i 0) refl) (or-true (anyBelow i (markAt starts gone (getD starts i 0)))))
-          (λ c n. rw (q, ne-eqb (getD starts i 0) c (λ f. n (sym f))) (sym (or-false (anyBelow i (markAt starts gone c)))))
-      go false q = cleared-same old (marked starts gone i) (marked starts gone (suc i)) (λ c. rw q (sym (or-false (anyBelow i (markAt starts gone c)))))
+          (rw (q, eq-eqb (getD starts i 0) (getD starts i 0) refl) (or-true (anyBelow i (markedEntry starts gone (getD starts i 0)))))
+          (λ c n. rw (q, ne-eqb (getD starts i 0) c (λ f. n (sym f))) (sym (or-false (anyBelow i (markedEntry starts gone c)))))
+      go false q = cleared-same old (marked starts gone i) (marked starts gone (suc i)) (λ c. rw q (sym (or-false (anyBelow i (markedEntry starts gone c)))))
 
   pub marks-done : (i n : ℕ) (s : List ℕ) → s ≡ cleared old (marked starts gone i) → i ≤ n → n ≤ i → s ≡ cleared old (marked starts gone n)
   marks-done i n s h p q = let e : i ≡ n = omega arith in rw e at h
 
-  pub marks-inside : (i n b k : ℕ) (s : List ℕ) → Entries old starts sizes n → length s ≡ length old → i < n → b ≡ getD starts i 0 → k ≡ getD sizes i 0 → b * 2048 + k * 2048 ≤ length s
-  marks-inside i n b k s d e l p q = omega (arith, d .ends i l)
+  pub marks-inside : (i n : ℕ) (s : List ℕ) → Entries old starts sizes n → length s ≡ length old → i < n → getD starts i 0 * 2048 + getD sizes i 0 * 2048 ≤ length s
+  marks-inside i n s d e l = omega (arith, d .ends i l)
 
 pub ruleset marking = (marks-start, marks-more, marks-done, marks-inside)
 

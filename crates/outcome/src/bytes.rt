@@ -8,7 +8,7 @@ ghost use Rattle.outcome.specs.Cleared.{cleared};
 ghost use Rattle.outcome.specs.Marks.{marked, Entries, emptyIf};
 
 // The update of `size` blocks from `start` on is emptied, if it is marked.
-fn empty_if(gone: bool, store: &mut [u8], start: u32, size: u32)
+fn empty_if(gone: bool, store: &mut [u8], start: u8, size: u8)
     requires { ⌜ start * 2048 + size * 2048 ≤ length (now store) ⌝ }
     ensures { λ _. ⌜ now (store .exit) ≡ emptyIf gone (now (store .entry)) start size ⌝ }
 {
@@ -30,12 +30,7 @@ fn empty_marked<'a>(
 {
     let mut i: usize = 0;
     while i < count {
-        empty_if(
-            gone[i],
-            store,
-            dwords::wide(starts[i]),
-            dwords::wide(sizes[i]),
-        );
+        empty_if(gone[i], store, starts[i], sizes[i]);
         i += 1;
     }
 }

@@ -6,3 +6,4 @@ pub mod Marks
 pub mod Tries
 pub mod Runs
 pub mod Best
+pub mod Agree

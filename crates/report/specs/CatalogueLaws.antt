@@ -1,13 +1,12 @@
 -- Laws of the whole text: the loop over the blocks, and the two ways to the text.
---   store-good       the store is valid if its directory says so
---   few-blocks       it has at most 32 blocks then; `count-is`: so many as the code counts
+--   count-is         a store has so many blocks as the code counts
 --   kind-is          the kind that a call gave by the directory
 --   lines-none, free-none     before the first block
 --   lines-more       what block b adds to the lines
 --   free-more        what it adds to the count of unused blocks
 --   text-good, text-bad     the text, from what the calls gave
 use Prim.Native.Nat.{ℕ, _+_, _*_, _/_, _<_, _≤_}
-use mathlib.Core.Path.{_≡_, refl, sym, _∙_}
+use mathlib.Core.Path.{_≡_, refl, _∙_}
 use mathlib.Core.Bool.{true, false}
 use mathlib.Core.List.{List, [], _++_}
 use native.Mathlib.Omega.{arith}
@@ -18,7 +17,6 @@ use Rattle.store.specs.Blocks.{blockCount}
 use Rattle.store.specs.Scan.{storeOk, directory}
 use Rattle.store.specs.Kind.{kindAt, kindIn}
 use Rattle.store.specs.StoreLaws.{directory-ok}
-use Rattle.store.specs.ValidLaws.{store-valid}
 use Rattle.store.specs.DirectoryLaws.{kind-law}
 use Rattle.store.specs.declared.kind.Kind.{Kind}
 use Rattle.store.specs.declared.directory.Directory.{Directory}
@@ -29,13 +27,6 @@ use Rattle.report.specs.declared.text.Text.{Text}
 
 -- d is the local that holds the directory
 module _ (s : List ℕ) (d : Directory) (e : d ≡ directory s) where
-  pub store-good : d .ok ≡ true → storeOk s ≡ true
-  store-good h = sym (directory-ok s d e) ∙ h
-
-  pub few-blocks : d .ok ≡ true → length s / 2048 ≤ 32
-  unfolding blockCount
-  few-blocks h = store-valid s (store-good h) .few
-
   pub text-bad : (empty text : List ℕ) → d .ok ≡ false → empty ≡ [] → text ≡ empty ++ badText → text ≡ catalogueText s
   unfolding catalogueText unless
   text-bad empty text f g h = rw (← directory-ok s d e, f, h, g)

@@ -4,7 +4,7 @@
 --   adding                         what a block adds by its kind, as `search` takes it
 use Prim.Native.Nat.{ℕ, _<_}
 use mathlib.Core.Path.{_≡_, sym, _∙_}
-use mathlib.Core.Bool.{Bool, true, false}
+use mathlib.Core.Bool.{true}
 use mathlib.Core.List.{List}
 use native.Mathlib.Omega.{arith}
 use Rattle.laws.specs.Count.{count-most}
@@ -14,11 +14,10 @@ use Rattle.coverage.specs.Covers.{platformsAt, names}
 use Rattle.coverage.specs.Platforms.{platformCount, lowestPlatform}
 use Rattle.store.specs.Blocks.{fromBlock, blockCount}
 use Rattle.store.specs.Scan.{slotAt, begins, storeOk}
-use Rattle.store.specs.Kind.{kindOf, kindAt}
+use Rattle.store.specs.Kind.{kindAt}
 use Rattle.store.specs.SlotLaws.{ends-inside}
+use Rattle.store.specs.KindLaws.{first-update}
 use Rattle.store.specs.ValidLaws.{store-valid}
-use Rattle.store.specs.declared.slot.Slot.{Slot}
-use Rattle.store.specs.declared.slot.Slot.the-variants.{Unused, Update, Bad}
 use Rattle.store.specs.declared.kind.Kind.{Kind}
 use Rattle.store.specs.declared.kind.Kind.the-variants.{Free, First, Later}
 use Rattle.report.specs.Catalogue.{lineOf, kindLine, blockLine}
@@ -33,13 +32,6 @@ module _ (u : List ℕ) (n : ℕ) where
   pub low-platform : n ≡ lowestPlatform u → n < 100
   unfolding lowestPlatform
   low-platform e = omega (arith, first-is 8 (names (platformsAt u 0)) .within)
-
--- a block that the reading finds the first of k has k blocks
-first-update : (t : Bool) (x : Slot) (k : ℕ) → kindOf t x ≡ First k → x ≡ Update k
-first-update true Unused k e = absurd (let z : _≡_ {A = ℕ} 0 1 = cc in omega arith)
-first-update true (Update j) k e = cc
-first-update true Bad k e = absurd (let z : _≡_ {A = ℕ} 0 1 = cc in omega arith)
-first-update false x k e = absurd (let z : _≡_ {A = ℕ} 0 1 = cc in omega arith)
 
 module _ (s : List ℕ) (b : ℕ) (ok : storeOk s ≡ true) where
   pub block-small : b < blockCount s → b < 100

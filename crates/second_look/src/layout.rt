@@ -100,7 +100,7 @@ pub fn owns(l: Layout, i: usize, c: u32) -> bool {
 }
 
 // Whether some update has both marks.
-pub fn barred(l: Layout) -> bool {
+pub fn torn(l: Layout) -> bool {
     let mut i: usize = 0;
     while i < 4 {
         if l.shares[i] && l.keeps[i] {

@@ -8,7 +8,7 @@ use libc::STDOUT_FILENO;
 
 pub struct Tally {
     pub writes: u32,
-    pub barred: u32,
+    pub torn: u32,
     pub full: u32,
     pub written: u32,
     pub differences: u32,
@@ -19,7 +19,7 @@ fn none() -> Tally {
     let emptied = [0; 5];
     Tally {
         writes: 0,
-        barred: 0,
+        torn: 0,
         full: 0,
         written: 0,
         differences: 0,
@@ -47,7 +47,7 @@ fn with_written(t: Tally, emptied: u32) -> Tally {
 fn with_refused(t: Tally, al: u32) -> Tally {
     let mut u = t;
     if al == 4 {
-        u.barred = more(t.barred);
+        u.torn = more(t.torn);
     }
     if al == 5 {
         u.full = more(t.full);
@@ -156,7 +156,7 @@ fn line(label: &[u8], n: u32) {
 pub fn say(t: Tally) {
     let emptied = t.emptied;
     line(b"writes ", t.writes);
-    line(b"refused with AL 4 ", t.barred);
+    line(b"refused with AL 4 ", t.torn);
     line(b"refused with AL 5 ", t.full);
     line(b"written ", t.written);
     line(b"emptied 0: ", emptied[0]);

@@ -76,7 +76,7 @@ fn judged(answer: Answer, l: Layout, o: Outcome) -> Seen {
             number: w.emptied,
         },
         Answer::Refused(r) => {
-            let al = if layout::barred(l) { 4 } else { 5 };
+            let al = if layout::torn(l) { 4 } else { 5 };
             Seen {
                 same: !o.found && r.ah == 0x93 && r.al == al && r.status == 0,
                 written: false,

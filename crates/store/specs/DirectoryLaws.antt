@@ -2,6 +2,7 @@
 --   startOf, sizeOf    first block and size of entry i
 --   Listing      each entry is a stored update, in order; each stored update is an entry
 --   listing      of the directory of a valid store
+--   kind-free    a block that no update owns is free
 --   kind-law     the kind of a block by the directory is its kind in the store
 use Prim.Native.Nat.{ℕ, _+_, _-_, _<_, _≤_}
 use mathlib.Core.Path.{_≡_, refl, sym, _∙_}
@@ -104,7 +105,7 @@ module _ (s : List ℕ) (ok : storeOk s ≡ true) where
         (eq-or-lt-of-le (o .from))
 
     -- a block that no update owns is unused
-    kind-free : ((a : ℕ) → Owned s (first s) a b → ⊥) → kinds.Free ≡ kindAt s b
+    pub kind-free : ((a : ℕ) → Owned s (first s) a b → ⊥) → kinds.Free ≡ kindAt s b
     unfolding kindAt sound first
     kind-free none = let h = home s b in go (h .0) (h .1) (h .2) (h .3) (slotAt s (h .0)) refl (all-at (sound s) (blockCount s) (h .0) (layout-sound s (blockCount s) (first s) (valid .layout)) (omega (arith, h .2)))
       where

@@ -11,4 +11,5 @@ pub mod ClashLaws
 pub mod StoreLaws
 pub mod LayoutLaws
 pub mod ValidLaws
+pub mod KindLaws
 pub mod DirectoryLaws

@@ -2,7 +2,7 @@
 --   pad-at           an array's first elements are the list's
 --   scanned-few      the reading lists at most n updates
 --   store-bad .. store-length    the four ways to the directory
---   directory-ok     the directory says whether the store is valid
+--   directory-ok, directory-good    the directory says whether the store is valid
 --   directory-listed    of a valid store it is what its blocks list
 --   directory-few    it lists at most 32 updates
 use Prim.Native.Nat.{ℕ, _-_, _/_, _<_, _≤_}
@@ -84,6 +84,9 @@ module _ (s : List ℕ) (d : Directory) (e : d ≡ directory s) where
       go : (t : Bool) → cond t (listed s (blockCount s)) badStore .ok ≡ t
       go true = refl
       go false = refl
+
+  pub directory-good : d .ok ≡ true → storeOk s ≡ true
+  directory-good h = sym directory-ok ∙ h
 
   pub directory-listed : storeOk s ≡ true → d ≡ listed s (blockCount s)
   unfolding directory

@@ -2,6 +2,7 @@
 --   valid-law       the theorem, both ways
 --   store-valid     from the verdict, with N and the first blocks read
 --   valid-store     to the verdict
+--   blocks-few      a valid store has at most 32 blocks
 --   valid-apart     no two stored updates share, as the Bool that computes
 use Prim.Native.Nat.{ℕ, _%_, _/_, _<_, _≤_}
 use mathlib.Core.Path.{_≡_, sym, ap, _∙_}
@@ -18,8 +19,10 @@ use Rattle.laws.specs.Orders.{le-or-lt}
 use Rattle.coverage.specs.Shares.{shares}
 use Rattle.coverage.specs.ShareLaws.{shares-law}
 use Rattle.store.specs.Blocks.{fromBlock, blockCount, lengthOk, length-parts}
-use Rattle.store.specs.Scan.{first, sound, startsTo, clashAt, clashRow, clash, apart, storeOk}
+use Rattle.store.specs.Scan.{first, sound, startsTo, clashAt, clashRow, clash, apart, storeOk, directory}
 use Rattle.store.specs.Valid.{Valid, ValidStore}
+use Rattle.store.specs.StoreLaws.{directory-good}
+use Rattle.store.specs.declared.directory.Directory.{Directory}
 use Rattle.store.specs.BlockLaws.{listed-first, first-listed, starts-increase}
 use Rattle.store.specs.LayoutLaws.{layout-first, layout-sound, scan-layout}
 
@@ -86,3 +89,7 @@ module _ (s : List ℕ) where
 
   pub valid-law : (storeOk s ≡ true) ↔ ValidStore s
   valid-law = (λ h. (blockCount s, first s, store-valid h), λ v. valid-store (v .0) (v .1) (v .2))
+
+-- a valid store has at most 32 blocks: d is the directory that was read
+pub blocks-few : (s : List ℕ) (d : Directory) → d ≡ directory s → d .ok ≡ true → length s / 2048 ≤ 32
+blocks-few s d e h = let v = store-valid s (directory-good s d e h) in omega (arith, v .long, v .few)

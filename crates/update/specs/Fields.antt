@@ -1,6 +1,6 @@
 -- The fields of the header, as stored, and what D = 0 means (document 01, "The update").
---   version .. storedTotal    the nine numbers of the header, at their offsets
---   dataOf, totalOf           the sizes that the stored D and T mean
+--   version .. storedTotalSize    the nine numbers of the header, at their offsets
+--   dataSizeOf, totalSizeOf           the sizes that the stored D and T mean
 --   dataSize, totalSize       the same, of an update's bytes
 use Prim.Native.Nat.{ℕ}
 use mathlib.Core.Bool.{cond}
@@ -30,22 +30,22 @@ abbrev pub flags : List ℕ → ℕ
 flags s = dword s 24
 
 -- D as stored
-abbrev pub storedData : List ℕ → ℕ
-storedData s = dword s 28
+abbrev pub storedDataSize : List ℕ → ℕ
+storedDataSize s = dword s 28
 
 -- T as stored
-abbrev pub storedTotal : List ℕ → ℕ
-storedTotal s = dword s 32
+abbrev pub storedTotalSize : List ℕ → ℕ
+storedTotalSize s = dword s 32
 
 -- D = 0 means 2,000 data bytes and T = 2,048, whatever stands at 32
-unfoldable pub dataOf : ℕ → ℕ
-dataOf d = cond (eqb d 0) 2000 d
+unfoldable pub dataSizeOf : ℕ → ℕ
+dataSizeOf d = cond (eqb d 0) 2000 d
 
-unfoldable pub totalOf : ℕ → ℕ → ℕ
-totalOf d t = cond (eqb d 0) 2048 t
+unfoldable pub totalSizeOf : ℕ → ℕ → ℕ
+totalSizeOf d t = cond (eqb d 0) 2048 t
 
 unfoldable pub dataSize : List ℕ → ℕ
-dataSize s = dataOf (storedData s)
+dataSize s = dataSizeOf (storedDataSize s)
 
 unfoldable pub totalSize : List ℕ → ℕ
-totalSize s = totalOf (storedData s) (storedTotal s)
+totalSize s = totalSizeOf (storedDataSize s) (storedTotalSize s)

@@ -15,7 +15,7 @@ use Rattle.laws.specs.Same.{Same, same-less, same-drop, same-take}
 use Rattle.dwords.specs.Dword.{dword, dword-same}
 use Rattle.update.specs.Fields.{version, revision, loaderVersion, dataSize, totalSize}
 use Rattle.update.specs.Sizes.{sizesOk, tableCount, entriesOf, entryCount}
-use Rattle.update.specs.Sums.{headerSum, entryAt, entryOk, table, sumsOk}
+use Rattle.update.specs.Sums.{headerSum, entryOffset, entryOk, table, sumsOk}
 use Rattle.update.specs.Verdict.{headerOk, sizesFit, verdict}
 use Rattle.update.specs.SizeLaws.{Inside, inside}
 use Rattle.update.specs.VerdictLaws.{Judged, judged, good-made}
@@ -108,7 +108,7 @@ module _ (s r : List ℕ) (t d n k : ℕ) (good : verdict s ≡ Good t d n k) (s
   header-sum-local = rw (field-local 12 (omega arith), field-local 24 (omega arith), field-local 16 (omega arith))
 
   entry-local : (want i : ℕ) → i < entryCount s → entryOk s (dataSize s) want i ≡ entryOk r (dataSize s) want i
-  unfolding entryOk entryAt
+  unfolding entryOk entryOffset
   entry-local want i l =
       let y = within .sized .layout in
       rw (

@@ -1,7 +1,7 @@
 -- The three kinds of sums, each modulo 2^32 (document 01, "The update").
 --   sumOf          signature + flags + checksum
 --   headerSum      that of the header
---   entryAt        where entry k begins, behind d data bytes
+--   entryOffset        where entry k begins, behind d data bytes
 --   entryOk        the sum of entry k is `want`
 --   table          the table's bytes
 --   sumsOk         all sums are right
@@ -23,11 +23,11 @@ unfoldable pub headerSum : List ℕ → ℕ
 headerSum s = sumOf (signature s) (flags s) (checksum s)
 
 -- the table begins at 48 + D with 20 bytes of its own: count, checksum, 12 reserved bytes
-unfoldable pub entryAt : ℕ → ℕ → ℕ
-entryAt d k = 48 + d + 20 + 12 * k
+unfoldable pub entryOffset : ℕ → ℕ → ℕ
+entryOffset d k = 48 + d + 20 + 12 * k
 
 unfoldable pub entryOk : List ℕ → ℕ → ℕ → ℕ → Bool
-entryOk s d want k = eqb (sumOf (dword s (entryAt d k)) (dword s (entryAt d k + 4)) (dword s (entryAt d k + 8))) want
+entryOk s d want k = eqb (sumOf (dword s (entryOffset d k)) (dword s (entryOffset d k + 4)) (dword s (entryOffset d k + 8))) want
 
 -- what lies between the data and the end: the table's 20 + 12 n bytes, or nothing
 unfoldable pub table : List ℕ → List ℕ

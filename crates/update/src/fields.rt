@@ -1,6 +1,6 @@
 // The fields of an update's header, as stored.
 ghost use mathlib.Core.Path.{_≡_};
-ghost use Rattle.update.specs.Fields.{version, revision, date, signature, checksum, loaderVersion, flags, storedData, storedTotal};
+ghost use Rattle.update.specs.Fields.{version, revision, date, signature, checksum, loaderVersion, flags, storedDataSize, storedTotalSize};
 
 // Must be 1.
 pub fn version(s: &[u8]) -> u32
@@ -47,15 +47,15 @@ pub fn flags(s: &[u8]) -> u32
 }
 
 // D as stored: 0 means 2,000.
-pub fn stored_data(s: &[u8]) -> u32
-    ensures { λ r. ⌜ r ≡ storedData (now (s .entry)) ⌝ }
+pub fn stored_data_size(s: &[u8]) -> u32
+    ensures { λ r. ⌜ r ≡ storedDataSize (now (s .entry)) ⌝ }
 {
     dwords::dword(s, 28)
 }
 
 // T as stored: it has no meaning where D is stored as 0.
-pub fn stored_total(s: &[u8]) -> u32
-    ensures { λ r. ⌜ r ≡ storedTotal (now (s .entry)) ⌝ }
+pub fn stored_total_size(s: &[u8]) -> u32
+    ensures { λ r. ⌜ r ≡ storedTotalSize (now (s .entry)) ⌝ }
 {
     dwords::dword(s, 32)
 }

@@ -1,17 +1,17 @@
 // The sizes of an update: what D and T mean, the rules for them, the number of entries and of blocks.
 ghost use mathlib.Core.Path.{_≡_};
-ghost use Rattle.update.specs.Fields.{dataOf, totalOf, dataSize, totalSize};
+ghost use Rattle.update.specs.Fields.{dataSizeOf, totalSizeOf, dataSize, totalSize};
 ghost use Rattle.update.specs.Sizes.{sizesOk, tableCount, entriesOf, blocksOf};
 use crate::fields;
 
-fn data_of(d: u32) -> u32
-    ensures { λ r. ⌜ r ≡ dataOf d ⌝ }
+fn data_size_of(d: u32) -> u32
+    ensures { λ r. ⌜ r ≡ dataSizeOf d ⌝ }
 {
     if d == 0 { 2000 } else { d }
 }
 
-fn total_of(d: u32, t: u32) -> u32
-    ensures { λ r. ⌜ r ≡ totalOf d t ⌝ }
+fn total_size_of(d: u32, t: u32) -> u32
+    ensures { λ r. ⌜ r ≡ totalSizeOf d t ⌝ }
 {
     if d == 0 { 2048 } else { t }
 }
@@ -20,14 +20,14 @@ fn total_of(d: u32, t: u32) -> u32
 pub fn data_size(s: &[u8]) -> u32
     ensures { λ r. ⌜ r ≡ dataSize (now (s .entry)) ⌝ }
 {
-    data_of(fields::stored_data(s))
+    data_size_of(fields::stored_data_size(s))
 }
 
 // The number of bytes in all.
 pub fn total_size(s: &[u8]) -> u32
     ensures { λ r. ⌜ r ≡ totalSize (now (s .entry)) ⌝ }
 {
-    total_of(fields::stored_data(s), fields::stored_total(s))
+    total_size_of(fields::stored_data_size(s), fields::stored_total_size(s))
 }
 
 // The table's count field, which stands behind the `d` data bytes.

@@ -5,7 +5,7 @@ ghost use lib.ListN.{length};
 ghost use Rattle.laws.specs.Below.{allBelow};
 ghost use Rattle.update.specs.Fields.{dataSize, totalSize};
 ghost use Rattle.update.specs.Sizes.{entryCount};
-ghost use Rattle.update.specs.Sums.{sumOf, headerSum, entryAt, entryOk, sumsOk};
+ghost use Rattle.update.specs.Sums.{sumOf, headerSum, entryOffset, entryOk, sumsOk};
 ghost use Rattle.update.specs.SizeLaws.{Inside};
 use crate::fields;
 
@@ -22,7 +22,7 @@ fn header_sum(s: &[u8]) -> u32
 }
 
 fn entry_ok(s: &[u8], d: u32, want: u32, k: u32) -> bool
-    requires { ⌜ entryAt d k + 12 ≤ length (now s) ⌝ }
+    requires { ⌜ entryOffset d k + 12 ≤ length (now s) ⌝ }
     ensures { λ r. ⌜ r ≡ entryOk (now (s .entry)) d want k ⌝ }
 {
     let at = 48 + d as usize + 20 + 12 * (k as usize);

@@ -4,32 +4,29 @@
 --   legal-numbers    a legal outcome over first blocks is one over numbers
 --   legal-blocks     and the other way round, where the two sets agree
 --   goes-number      the updates that go, by first block and by number
-use Prim.Native.Nat.{ℕ, _+_, _<_}
+use Prim.Native.Nat.{ℕ, _<_}
 use mathlib.Core.Path.{_≡_, refl, sym, ap, _∙_}
-use mathlib.Core.Bool.{Bool, true, false, true≢false}
+use mathlib.Core.Bool.{Bool, true, true≢false}
 use mathlib.Core.List.{List}
 use mathlib.Core.Logic.{⊎-elim, inl, inr}
 use native.Mathlib.Omega.{arith}
-use lib.Dec.{leb, ltb}
-use borrow.Author.Tests.{leb-true, ltb-true}
-use Rattle.laws.specs.Bools.{and-parts, no-true}
-use Rattle.laws.specs.Below.{any-false}
+use Rattle.laws.specs.Bools.{no-true}
 use Rattle.update.specs.Fields.{totalSize}
 use Rattle.update.specs.Sizes.{blocksOf}
 use Rattle.coverage.specs.Shares.{shares}
 use Rattle.coverage.specs.ShareLaws.{shares-law}
 use Rattle.store.specs.Blocks.{fromBlock, blockCount}
 use Rattle.store.specs.Scan.{first, storeOk, directory}
-use Rattle.store.specs.Kind.{owns, ownsAt, kindAt, kind-none}
+use Rattle.store.specs.Kind.{kindAt}
 use Rattle.store.specs.Valid.{Owned}
-use Rattle.store.specs.DirectoryLaws.{startOf, sizeOf, Listing, listing, kind-law}
+use Rattle.store.specs.DirectoryLaws.{startOf, Listing, listing, kind-free}
 use Rattle.store.specs.declared.kind.Kind.the-variants.{Free}
 use Rattle.placement.specs.Held.{Held, Holds}
 use Rattle.placement.specs.Legal.{Legal as LegalRun}
 use Rattle.placement.specs.Choose.{touches, goes as goesNumber}
 use Rattle.outcome.specs.Processors.{keeping, keeps-law}
 use Rattle.outcome.specs.Legal.{Legal}
-use Rattle.outcome.specs.FreeLaws.{free-unowned}
+use Rattle.store.specs.KindLaws.{free-unowned}
 use Rattle.write.specs.Marks.{sharesEntry, keepsEntry, heldIn}
 use Rattle.write.specs.Write.{touched, goes}
 
@@ -54,16 +51,10 @@ module _ (old signatures platforms cand : List ℕ) (ok : storeOk old ≡ true) 
   owned-holds i b c l e o = record { from = rw e (o .from); upto = rw (entries .sized i l) (rw e (o .upto)) }
 
   unheld-free : (c : ℕ) → c < blockCount old → ((i : ℕ) → i < h .count → Holds h i c → ⊥) → kindAt old c ≡ Free
-  unfolding heldIn ownsAt owns
+  unfolding heldIn
   unheld-free c l none =
-      sym (kind-none (directory old) c (directory old .count) (any-false (ownsAt (directory old) c) (directory old .count) fails) (omega arith) (omega arith)
-      ∙ kind-law old ok (directory old) refl c l)
-    where
-      fails : (i : ℕ) → i < directory old .count → ownsAt (directory old) c i ≡ false
-      fails i m =
-          no-true (ownsAt (directory old) c i) (λ w.
-          let x = and-parts (leb (startOf (directory old) i) c) (ltb c (startOf (directory old) i + sizeOf (directory old) i)) w in
-          none i m (record { from = leb-true _ _ (x .0); upto = ltb-true _ _ (x .1) }))
+      sym (kind-free old ok (directory old) refl c l (λ b o.
+      let i = entries .every b (omega (arith, o .from)) (o .at) in none (i .0) (i .1) (owned-holds (i .0) b c (i .1) (i .2) o)))
 
   -- update number i begins below N
   start-below : (i : ℕ) → i < h .count → h .start i < blockCount old

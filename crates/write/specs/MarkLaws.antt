@@ -2,27 +2,22 @@
 --   Shared, Marks             arrays of marks beside the directory's entries are right
 --   shares-is, keeps-is       a turn of the loop that marks; marks-made: its end
 --   outdates-yes, outdating   the test of one update; the scan for one that isn't older, as `search` takes it
---   Agree                     two tables of updates are the same below the count
---   choose-same, shared-same, torn-same    then so are the choice, the number that share, and check 7
 --   held-same                 right marks agree with the definitions' table
-use Prim.Native.Nat.{ℕ, suc, _+_, _-_, _<_, _≤_}
+use Prim.Native.Nat.{ℕ, _+_, _<_, _≤_}
 use mathlib.Core.Path.{_≡_, sym, _∙_}
 use mathlib.Core.Bool.{Bool, true, false, _&&_}
 use mathlib.Core.List.{List}
 use lib.ListN.{length, getD}
 use lib.Dec.{leb}
-use Rattle.laws.specs.Below.{anyBelow, any-none, any-more, any-stop, any-cong}
+use Rattle.laws.specs.Below.{anyBelow, any-none, any-more, any-stop}
 use Rattle.laws.specs.Loops.{scan-done}
-use Rattle.laws.specs.Count.{countBelow, count-cong}
-use Rattle.laws.specs.Least.{least-cong}
 use Rattle.laws.specs.Arrays.{Filled, filled-all}
 use Rattle.update.specs.Fields.{revision}
 use Rattle.coverage.specs.Shares.{shares}
 use Rattle.store.specs.Blocks.{fromBlock}
 use Rattle.store.specs.Scan.{directory}
 use Rattle.store.specs.declared.directory.Directory.{Directory}
-use Rattle.placement.specs.Held.{Held}
-use Rattle.placement.specs.Choose.{touches, goes, bars, loses, barred, lost, torn, choose}
+use Rattle.placement.specs.Agree.{Agree}
 use Rattle.placement.specs.Marks.{held}
 use Rattle.placement.specs.declared.Marked.{Marked}
 use Rattle.write.specs.Covered.{Covered, keepsBy, keeping-is}
@@ -83,53 +78,6 @@ unfolding outdated
 outdate-done old cand starts shares count i right h p q = scan-done (outdates old cand) i count (directory old .count) (right .count-is) p q h
 
 pub ruleset outdating = (any-none, outdate-more, outdate-stop, outdate-done)
-
--- two tables of updates that agree below the count
-pub record Agree (g h : Held) : Type 0 where
-  pub count : g .count ≡ h .count
-  pub start : (i : ℕ) → i < g .count → g .start i ≡ h .start i
-  pub size : (i : ℕ) → i < g .count → g .size i ≡ h .size i
-  pub shares : (i : ℕ) → i < g .count → g .shares i ≡ h .shares i
-  pub keeps : (i : ℕ) → i < g .count → g .keeps i ≡ h .keeps i
-
-module _ (g h : Held) (a : Agree g h) where
-  touches-same : (k s i : ℕ) → i < g .count → touches g k s i ≡ touches h k s i
-  unfolding touches
-  touches-same k s i l = rw (a .start i l, a .size i l)
-
-  pub goes-same : (k s i : ℕ) → i < g .count → goes g k s i ≡ goes h k s i
-  unfolding goes
-  goes-same k s i l = rw (a .shares i l, touches-same k s i l)
-
-  bars-same : (k s i : ℕ) → i < g .count → bars g k s i ≡ bars h k s i
-  unfolding bars
-  bars-same k s i l = rw (a .keeps i l, goes-same k s i l)
-
-  loses-same : (k s i : ℕ) → i < g .count → loses g k s i ≡ loses h k s i
-  unfolding loses
-  loses-same k s i l = rw (a .shares i l, touches-same k s i l)
-
-  barred-same : (k s : ℕ) → barred g k s ≡ barred h k s
-  unfolding barred
-  barred-same k s = any-cong (bars g k s) (bars h k s) (g .count) (bars-same k s) ∙ rw (a .count)
-
-  lost-same : (k s : ℕ) → lost g k s ≡ lost h k s
-  unfolding lost
-  lost-same k s = count-cong (loses g k s) (loses h k s) (g .count) (loses-same k s) ∙ rw (a .count)
-
-  pub choose-same : (n k : ℕ) → choose n k g ≡ choose n k h
-  unfolding choose
-  choose-same n k = least-cong (barred g k) (barred h k) (lost g k) (lost h k) (suc n - k) (barred-same k) (lost-same k)
-
-  pub shared-same : countBelow (g .count) (g .shares) ≡ countBelow (h .count) (h .shares)
-  shared-same = count-cong (g .shares) (h .shares) (g .count) (a .shares) ∙ rw (a .count)
-
-  torn-at : (i : ℕ) → i < g .count → torn g i ≡ torn h i
-  unfolding torn
-  torn-at i l = rw (a .shares i l, a .keeps i l)
-
-  pub torn-same : anyBelow (g .count) (torn g) ≡ anyBelow (h .count) (torn h)
-  torn-same = any-cong (torn g) (torn h) (g .count) torn-at ∙ rw (a .count)
 
 pub held-same : (old signatures platforms cand : List ℕ) (m : Marked) → Marks old signatures platforms cand m → Agree (held m) (heldIn old signatures platforms cand)
 unfolding held heldIn

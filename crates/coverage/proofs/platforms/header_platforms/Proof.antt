@@ -1,11 +1,11 @@
 -- `coverage::platforms::header_platforms` meets its contract: pair 0 is the header's.
 use borrow.Author.Needs.{needs}
-use Rattle.coverage.specs.Covers.{platformsAt, flagsAt, flagsPos}
+use Rattle.coverage.specs.Covers.{platformsAt, flagsAt, flagsOffset}
 use Rattle.coverage.proofs.platforms.header_platforms.Statement.{statement}
 use Rattle.coverage.proofs.platforms.header_platforms.Tie as tie
 
 pub header-platforms-spec : {M : Type 1} → statement M
-unfolding platformsAt flagsAt flagsPos
+unfolding platformsAt flagsAt flagsOffset
 header-platforms-spec =
     tie.close
     (tie.spec

@@ -24,8 +24,6 @@ empty-marked-spec =
     (λ c. search needs)
     (λ c. search needs)
     (λ c. search needs)
-    (λ c. search needs)
-    (λ c. search needs)
     (λ c κs. search (needs, marking))
     (λ c. search needs)
     (λ c. search needs)

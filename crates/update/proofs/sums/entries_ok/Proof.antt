@@ -5,7 +5,7 @@ use mathlib.Core.Bool.{true}
 use Prim.Native.Nat.{_≤_, _-_}
 use Rattle.laws.specs.Below.{allBelow}
 use Rattle.laws.specs.Loops.{each}
-use Rattle.update.specs.Sums.{entryAt, entryOk}
+use Rattle.update.specs.Sums.{entryOffset, entryOk}
 use Rattle.update.proofs.sums.entries_ok.Statement.{statement}
 use Rattle.update.proofs.sums.entries_ok.Tie as tie
 
@@ -16,7 +16,7 @@ abbrev μ-loop : tie.MeasureT-loop
 μ-loop s d n want k₀ k = n - k
 
 pub entries-ok-spec : {M : Type 1} → statement M
-unfolding entryAt
+unfolding entryOffset
 entries-ok-spec =
     tie.close
     (tie.spec

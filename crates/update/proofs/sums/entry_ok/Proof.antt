@@ -1,11 +1,11 @@
 -- `update::sums::entry_ok` meets its contract, by that of `sum_of`.
 use borrow.Author.Needs.{needs}
-use Rattle.update.specs.Sums.{entryOk, entryAt}
+use Rattle.update.specs.Sums.{entryOk, entryOffset}
 use Rattle.update.proofs.sums.entry_ok.Statement.{statement}
 use Rattle.update.proofs.sums.entry_ok.Tie as tie
 
 pub entry-ok-spec : {M : Type 1} → statement M
-unfolding entryOk entryAt
+unfolding entryOk entryOffset
 entry-ok-spec =
     tie.close
     (tie.spec

@@ -1,7 +1,8 @@
 -- `write::write::write_good` meets its contract: check 5, then the marks, checks 6 to 9 and the bytes.
 use borrow.Author.Needs.{needs}
 use Rattle.write.specs.ListLaws.{list-few, list-same}
-use Rattle.write.specs.PlanCases.{blocks-few, good-absent, good-marked}
+use Rattle.store.specs.ValidLaws.{blocks-few}
+use Rattle.write.specs.PlanCases.{good-absent, good-marked}
 use Rattle.write.specs.Storing.{planned-storable}
 use Rattle.write.specs.WriteCases.{back-same, stays-refused, stays-bytes}
 use Rattle.write.proofs.write.write_good.Statement.{statement}

@@ -1,5 +1,6 @@
--- A block of kind Free.
---   free-parts       a slot begins there, and it is unused
+-- What the kind of a block says.
+--   first-update     the first block of k is that of an update of k blocks
+--   free-parts       at a free one a slot begins, and it is unused
 --   free-unowned     it belongs to no update
 use Prim.Native.Nat.{ℕ, _<_, _≤_}
 use mathlib.Core.Path.{_≡_, refl, sym, ap, _∙_}
@@ -8,13 +9,19 @@ use mathlib.Core.List.{List}
 use mathlib.Core.Logic.{⊎-elim}
 use native.Mathlib.Omega.{arith}
 use Rattle.laws.specs.Orders.{le-or-lt}
 use Rattle.store.specs.Scan.{slotAt, begins, first}
 use Rattle.store.specs.Kind.{kindOf, kindAt}
 use Rattle.store.specs.Valid.{Owned}
 use Rattle.store.specs.LayoutLaws.{first-parts, begins-outside}
 use Rattle.store.specs.declared.slot.Slot.{Slot}
 use Rattle.store.specs.declared.slot.Slot.the-variants.{Unused, Update, Bad}
-use Rattle.store.specs.declared.kind.Kind.the-variants.{Free}
+use Rattle.store.specs.declared.kind.Kind.the-variants.{Free, First}
+
+pub first-update : (t : Bool) (x : Slot) (k : ℕ) → kindOf t x ≡ First k → x ≡ Update k
+first-update true Unused k e = absurd (let z : _≡_ {A = ℕ} 0 1 = cc in omega arith)
+first-update true (Update j) k e = cc
+first-update true Bad k e = absurd (let z : _≡_ {A = ℕ} 0 1 = cc in omega arith)
+first-update false x k e = absurd (let z : _≡_ {A = ℕ} 0 1 = cc in omega arith)
 
 module _ (s : List ℕ) (c : ℕ) (h : kindAt s c ≡ Free) where
   pub free-parts : (begins s c ≡ true) × (slotAt s c ≡ Unused)

@@ -1,8 +1,8 @@
--- `second_look::layout::barred` is safe and ends: `i` grows to 4.
+-- `second_look::layout::torn` is safe and ends: `i` grows to 4.
 use Prim.Native.Nat.{_≤_, _-_}
 use borrow.Author.Needs.{needs}
-use Rattle.second_look.proofs.layout.barred.Statement.{statement}
-use Rattle.second_look.proofs.layout.barred.Tie as tie
+use Rattle.second_look.proofs.layout.torn.Statement.{statement}
+use Rattle.second_look.proofs.layout.torn.Tie as tie
 
 abbrev Inv-loop : tie.InvT-loop
 Inv-loop l i₀ i = i ≤ 4
@@ -10,8 +10,8 @@ Inv-loop l i₀ i = i ≤ 4
 abbrev μ-loop : tie.MeasureT-loop
 μ-loop l i₀ i = 4 - i
 
-pub barred-spec : {M : Type 1} → statement M
-barred-spec =
+pub torn-spec : {M : Type 1} → statement M
+torn-spec =
     tie.close
     (tie.spec
     Inv-loop

@@ -1,0 +1,22 @@
+-- `coverage::covers::flags_offset` meets its contract: the header's, or that of an entry.
+use borrow.Author.Needs.{needs}
+use Rattle.laws.specs.Tests.{cases}
+use Rattle.update.specs.Sums.{entryOffset}
+use Rattle.coverage.specs.Covers.{flagsOffset}
+use Rattle.coverage.proofs.covers.flags_offset.Statement.{statement}
+use Rattle.coverage.proofs.covers.flags_offset.Tie as tie
+
+pub flags-offset-spec : {M : Type 1} → statement M
+unfolding flagsOffset entryOffset
+flags-offset-spec =
+    tie.close
+    (tie.spec
+    (search needs)
+    (search needs)
+    (search needs)
+    (search needs)
+    (search needs)
+    (search needs)
+    (search needs)
+    (λ c. search cases)
+    (λ c. search cases))

@@ -1,0 +1,21 @@
+-- `coverage::covers::signature_offset` meets its contract: the header's, or that of an entry.
+use borrow.Author.Needs.{needs}
+use Rattle.laws.specs.Tests.{cases}
+use Rattle.update.specs.Sums.{entryOffset}
+use Rattle.coverage.specs.Covers.{signatureOffset}
+use Rattle.coverage.proofs.covers.signature_offset.Statement.{statement}
+use Rattle.coverage.proofs.covers.signature_offset.Tie as tie
+
+pub signature-offset-spec : {M : Type 1} → statement M
+unfolding signatureOffset entryOffset
+signature-offset-spec =
+    tie.close
+    (tie.spec
+    (search needs)
+    (search needs)
+    (search needs)
+    (search needs)
+    (search needs)
+    (search needs)
+    (λ c. search cases)
+    (λ c. search cases))
