@@ -1,11 +1,13 @@
--- An array that a loop fills from the front.
+-- Arrays: one that a loop fills from the front, and one of marks.
 --   Filled                        its first i elements are f 0, f 1, ..
 --   filled-none, filled-more      a loop's start and its turn
 --   filled-at, filled-all         what stands in it, and the loop's end
 --   filling                       all of them, for `search`
 --   set-long                      a list keeps its length where one element is set
+--   markAt                        mark i of an array of marks
 use Prim.Native.Nat.{ℕ, _+_, _<_, _≤_}
 use mathlib.Core.Path.{_≡_, _∙_}
+use mathlib.Core.Bool.{Bool, false}
 use mathlib.Core.List.{List}
 use mathlib.Core.Logic.{⊎-elim}
 use native.Mathlib.Nat.{eq-or-lt-of-le}
@@ -42,3 +44,6 @@ pub ruleset filling = (filled-none, filled-more, filled-at, filled-all)
 
 pub set-long : (r d : List ℕ) (i b : ℕ) → length r ≡ length d → length (set r i b) ≡ length d
 set-long r d i b e = length-set r i b ∙ e
+
+unfoldable pub markAt : List Bool → ℕ → Bool
+markAt xs i = getD xs i false

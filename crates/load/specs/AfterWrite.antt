@@ -7,7 +7,7 @@ use mathlib.Core.Bool.{true, false}
 use mathlib.Core.List.{List}
 use Rattle.update.specs.Fields.{revision}
 use Rattle.coverage.specs.Covers.{covers}
-use Rattle.outcome.specs.Processors.{Listed}
+use Rattle.processors.specs.Processors.{Listed}
 use Rattle.view.specs.View.{dataPart}
 use Rattle.load.specs.Load.{loadChoice, chosenData}
 use Rattle.load.specs.declared.LoadChoice.the-variants.{Chosen}

@@ -33,7 +33,7 @@ use Rattle.update.specs.declared.verdict.Verdict.the-variants.{Good}
 use Rattle.store.specs.Blocks.{fromBlock, blockCount}
 use Rattle.store.specs.Scan.{slotAt, first, storeOk}
 use Rattle.store.specs.SlotLaws.{slotted, slot-inside}
-use Rattle.outcome.specs.Processors.{platformOk, listOk, Listed}
+use Rattle.processors.specs.Processors.{platformOk, listOk, Listed}
 use Rattle.outcome.specs.Legal.{Legal}
 use Rattle.outcome.specs.After.{kept, after, After}
 use Rattle.outcome.specs.AfterLaws.{outcome-after}
@@ -43,7 +43,7 @@ use Rattle.calls.specs.declared.answer.Refused.{Refused as RefusedNumbers}
 use Rattle.calls.specs.declared.answer.Answer.the-variants as answers
 use Rattle.write.specs.Write.{goes, bytesAfter, writeAnswer, writeBytes}
 use Rattle.write.specs.Planned.{Planned, plan-written}
-use Rattle.write.specs.ListLaws.{good-list}
+use Rattle.processors.specs.ListLaws.{good-list}
 use Rattle.write.specs.Chosen.{planned-best}
 use Rattle.write.specs.Answered.{answer-plan}
 use Rattle.view.specs.View.{dataPart}

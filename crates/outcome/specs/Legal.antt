@@ -15,7 +15,7 @@ use Rattle.store.specs.Scan.{first}
 use Rattle.store.specs.Kind.{kindAt}
 use Rattle.store.specs.Valid.{Owned}
 use Rattle.store.specs.declared.kind.Kind.the-variants.{Free}
-use Rattle.outcome.specs.Processors.{Keeps}
+use Rattle.processors.specs.Processors.{Keeps}
 
 -- old is the store before the call, and cand the candidate, of t bytes
 pub record Legal (old signatures platforms cand : List ℕ) (t start : ℕ) (e : ℕ → Bool) : Type 0 where

@@ -1,7 +1,7 @@
 -- What the program's `Marked` and `Choice` stand for.
 --   held        the updates of a `Marked`
 --   marksOf     lent arrays as a `Marked`
---   markAt, bothAt    a mark of an array; both marks of two arrays
+--   bothAt      both marks of two arrays
 --   torn-both, shared-marks    so they stand for the marks of the updates
 --   choiceOf    a pick as a `Choice`
 --   pickOf      a `Choice` as a pick
@@ -20,6 +20,7 @@ use lib.ListN.{getD}
 use lib.Dec.{eqb}
 use borrow.Author.Tests.{eqb-true, le-ltb}
 use Rattle.laws.specs.Below.{anyBelow}
+use Rattle.laws.specs.Arrays.{markAt}
 use Rattle.laws.specs.Count.{countBelow}
 use Rattle.laws.specs.Least.{Pick, nowhere, at, better, least}
 use Rattle.placement.specs.declared.Marked.{Marked}
@@ -35,9 +36,6 @@ held m = record { count = m .count; start = λ i. getD (m .starts) i 0; size = �
 -- lent arrays as a `Marked`
 abbrev pub marksOf : List ℕ → List ℕ → List Bool → List Bool → ℕ → Marked
 marksOf starts sizes shares keeps count = record { starts = starts; sizes = sizes; shares = shares; keeps = keeps; count = count }
-
-unfoldable pub markAt : List Bool → ℕ → Bool
-markAt xs i = getD xs i false
 
 unfoldable pub bothAt : List Bool → List Bool → ℕ → Bool
 bothAt xs ys i = markAt xs i && markAt ys i

@@ -1,14 +1,13 @@
 // The choice of a run of blocks for a new update. `k` is the number of blocks that it takes, `s` a start block.
 ghost use mathlib.Core.Path.{_≡_};
-ghost use mathlib.Core.Bool.{false, not, _&&_, _||_};
+ghost use mathlib.Core.Bool.{false, _&&_};
 ghost use mathlib.Core.List.{[]};
 ghost use Prim.Native.Nat.{_+_, _≤_};
-ghost use lib.Dec.{ltb, leb};
 ghost use Rattle.laws.specs.Below.{anyBelow};
 ghost use Rattle.laws.specs.Count.{countBelow};
-ghost use Rattle.laws.specs.Arrays.{Filled};
+ghost use Rattle.laws.specs.Arrays.{Filled, markAt};
 ghost use Rattle.placement.specs.Choose.{fills, barred, lost, choose};
-ghost use Rattle.placement.specs.Marks.{held, marksOf, markAt, bothAt, choiceOf, untouched};
+ghost use Rattle.placement.specs.Marks.{held, marksOf, bothAt, choiceOf, untouched};
 ghost use Rattle.placement.specs.Tries.{limitOf, capped, turn};
 
 // The stored updates in the order of their starts: update i < count starts at a block, has a size in blocks, and two marks against the
@@ -27,50 +26,6 @@ pub enum Choice {
     Nowhere,
 }
 
-// Does the run of `k` blocks from `s` touch the update of `size` blocks from `start`?
-fn touches(start: u8, size: u8, k: u32, s: u32) -> bool
-    ensures { λ r. ⌜ r ≡ ltb s (start + size) && ltb start (s + k) ⌝ }
-{
-    if (s as usize) < start as usize + size as usize {
-        (start as usize) < s as usize + k as usize
-    } else {
-        false
-    }
-}
-
-// Is the update emptied if the candidate goes to `s`?
-fn goes(start: u8, size: u8, shares: bool, k: u32, s: u32) -> bool
-    ensures { λ r. ⌜ r ≡ shares || (ltb s (start + size) && ltb start (s + k)) ⌝ }
-{
-    if shares {
-        true
-    } else {
-        touches(start, size, k, s)
-    }
-}
-
-// Would the update be emptied, and must it not be?
-fn bars(start: u8, size: u8, shares: bool, keeps: bool, k: u32, s: u32) -> bool
-    ensures { λ r. ⌜ r ≡ keeps && (shares || (ltb s (start + size) && ltb start (s + k))) ⌝ }
-{
-    if keeps {
-        goes(start, size, shares, k, s)
-    } else {
-        false
-    }
-}
-
-// Is the update touched, and does it not share?
-fn loses(start: u8, size: u8, shares: bool, k: u32, s: u32) -> bool
-    ensures { λ r. ⌜ r ≡ not shares && (ltb s (start + size) && ltb start (s + k)) ⌝ }
-{
-    if shares {
-        false
-    } else {
-        touches(start, size, k, s)
-    }
-}
-
 // Does some update rule the start out?
 fn barred<'a>(
     starts: &'a [u8; 32],
@@ -86,7 +41,7 @@ fn barred<'a>(
 {
     let mut i: usize = 0;
     while i < count {
-        if bars(starts[i], sizes[i], shares[i], keeps[i], k, s) {
+        if runs::bars(starts[i], sizes[i], shares[i], keeps[i], k, s) {
             return true;
         }
         i += 1;
@@ -110,7 +65,7 @@ fn lost<'a>(
     let mut touched: u32 = 0;
     let mut i: usize = 0;
     while i < count {
-        if loses(starts[i], sizes[i], shares[i], k, s) {
+        if runs::loses(starts[i], sizes[i], shares[i], k, s) {
             if limit <= touched + 1 {
                 return limit;
             }
@@ -233,28 +188,6 @@ pub fn shared(shares: &[bool; 32], count: usize) -> u32
     sharing
 }
 
-// Are all blocks of the update blocks of the run?
-fn within(start: u8, size: u8, k: u32, s: u32) -> bool
-    ensures { λ r. ⌜ r ≡ leb s start && leb (start + size) (s + k) ⌝ }
-{
-    if s as usize <= start as usize {
-        start as usize + size as usize <= s as usize + k as usize
-    } else {
-        false
-    }
-}
-
-// Is the update emptied, and are not all of its blocks the run's?
-fn fills(start: u8, size: u8, shares: bool, k: u32, s: u32) -> bool
-    ensures { λ r. ⌜ r ≡ not (leb s start && leb (start + size) (s + k)) && (shares || (ltb s (start + size) && ltb start (s + k))) ⌝ }
-{
-    if within(start, size, k, s) {
-        false
-    } else {
-        goes(start, size, shares, k, s)
-    }
-}
-
 // Marks the updates that must be filled with FFh if the candidate goes to `s`: those that are emptied, but for those that the run overwrites
 // whole.
 pub fn to_fill<'a>(
@@ -271,7 +204,7 @@ pub fn to_fill<'a>(
     let mut marks = [false; 32];
     let mut i: usize = 0;
     while i < count {
-        marks[i] = fills(starts[i], sizes[i], shares[i], k, s);
+        marks[i] = runs::fills(starts[i], sizes[i], shares[i], k, s);
         i += 1;
     }
     marks

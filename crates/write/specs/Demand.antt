@@ -23,7 +23,7 @@ use Rattle.store.specs.Blocks.{fromBlock, blockCount}
 use Rattle.store.specs.Scan.{slotAt, sizeAt, first, storeOk}
 use Rattle.store.specs.Valid.{ValidStore}
 use Rattle.store.specs.declared.slot.Slot.the-variants.{Update}
-use Rattle.outcome.specs.Processors.{listOk, coversOne, Keeps}
+use Rattle.processors.specs.Processors.{listOk, coversOne, Keeps}
 use Rattle.outcome.specs.Legal.{Legal, emptiedCount}
 use Rattle.outcome.specs.Bytes.{outcomeBytes}
 use Rattle.calls.specs.Answers.{ahOf}

@@ -32,7 +32,7 @@ use Rattle.store.specs.LayoutLaws.{first-parts}
 use Rattle.store.specs.ValidLaws.{store-valid}
 use Rattle.store.specs.DirectoryLaws.{listing}
 use Rattle.store.specs.declared.slot.Slot.the-variants.{Update}
-use Rattle.outcome.specs.Processors.{coversListed, coversOne}
+use Rattle.processors.specs.Processors.{coversListed, coversOne}
 use Rattle.outcome.specs.Legal.{Legal, storedIn, emptiedCount}
 use Rattle.outcome.specs.Bytes.{outcomeBytes}
 use Rattle.outcome.specs.After.{kept, after, After}

@@ -24,7 +24,7 @@ use Rattle.store.specs.declared.kind.Kind.the-variants.{Free}
 use Rattle.placement.specs.Held.{Held, Holds}
 use Rattle.placement.specs.Legal.{Legal as LegalRun}
 use Rattle.placement.specs.Choose.{touches, goes as goesNumber}
-use Rattle.outcome.specs.Processors.{keeping, keeps-law}
+use Rattle.processors.specs.Processors.{keeping, keeps-law}
 use Rattle.outcome.specs.Legal.{Legal}
 use Rattle.store.specs.KindLaws.{free-unowned}
 use Rattle.write.specs.Marks.{sharesEntry, keepsEntry, heldIn}

@@ -2,8 +2,6 @@
 pub mod Marks
 pub mod Write
 pub mod Demand
-pub mod Covered
-pub mod ListLaws
 pub mod MarkLaws
 pub mod PlanLaws
 pub mod PlanCases

@@ -20,7 +20,7 @@ use Rattle.store.specs.declared.directory.Directory.{Directory}
 use Rattle.placement.specs.Agree.{Agree}
 use Rattle.placement.specs.Marks.{held}
 use Rattle.placement.specs.declared.Marked.{Marked}
-use Rattle.write.specs.Covered.{Covered, keepsBy, keeping-is}
+use Rattle.processors.specs.Covered.{Covered, keepsBy, keeping-is}
 use Rattle.write.specs.Marks.{sharesEntry, keepsEntry, heldIn, outdates, outdated}
 
 pub record Shared (old cand starts : List ℕ) (shares : List Bool) (count : ℕ) : Type 0 where

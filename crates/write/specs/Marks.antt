@@ -15,7 +15,7 @@ use Rattle.coverage.specs.Shares.{shares}
 use Rattle.store.specs.Blocks.{fromBlock}
 use Rattle.store.specs.Scan.{directory}
 use Rattle.store.specs.DirectoryLaws.{startOf, sizeOf}
-use Rattle.outcome.specs.Processors.{keeping}
+use Rattle.processors.specs.Processors.{keeping}
 use Rattle.placement.specs.Held.{Held}
 
 -- the bytes from the first block of update number i on

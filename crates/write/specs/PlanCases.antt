@@ -20,12 +20,13 @@ use Rattle.store.specs.declared.directory.Directory.{Directory}
 use Rattle.placement.specs.Held.{Held}
 use Rattle.placement.specs.Agree.{Agree, choose-same, shared-same, torn-same}
 use Rattle.placement.specs.Choose.{torn, choose}
-use Rattle.placement.specs.Marks.{held, marksOf, bothAt, torn-both, markAt}
+use Rattle.placement.specs.Marks.{held, marksOf, bothAt, torn-both}
+use Rattle.laws.specs.Arrays.{markAt}
 use Rattle.placement.specs.declared.Marked.{Marked}
-use Rattle.outcome.specs.Processors.{listOk}
+use Rattle.processors.specs.Processors.{listOk}
 use Rattle.calls.specs.Answers.{refusal}
 use Rattle.calls.specs.declared.answer.Answer.{Answer}
-use Rattle.write.specs.Covered.{Covered, one-is}
+use Rattle.processors.specs.Covered.{Covered, one-is}
 use Rattle.write.specs.Marks.{heldIn, outdated}
 use Rattle.write.specs.MarkLaws.{Marks, held-same}
 use Rattle.write.specs.Write.{placed, markedAnswer, goodAnswer, judgedAnswer, planAnswer}

@@ -8,7 +8,8 @@ use Rattle.laws.specs.Count.{countBelow, count-most}
 use Rattle.laws.specs.Least.{Pick, nowhere, at, IsLeast, Promised, least-promised}
 use Rattle.placement.specs.Held.{Held}
 use Rattle.placement.specs.Choose.{barred, loses, lost, choose}
-use Rattle.placement.specs.Marks.{held, markAt, shared-marks, choiceOf}
+use Rattle.placement.specs.Marks.{held, shared-marks, choiceOf}
+use Rattle.laws.specs.Arrays.{markAt}
 use Rattle.placement.specs.declared.Marked.{Marked}
 use Rattle.placement.specs.declared.Choice.{Choice}
 use Rattle.placement.specs.declared.Choice.the-variants.{At, Nowhere}

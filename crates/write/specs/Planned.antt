@@ -26,7 +26,7 @@ use Rattle.store.specs.DirectoryLaws.{Listing, listing}
 use Rattle.placement.specs.Held.{Held, Laid}
 use Rattle.placement.specs.Choose.{torn, choose}
 use Rattle.placement.specs.Best.{choose-some}
-use Rattle.outcome.specs.Processors.{listOk, coversOne}
+use Rattle.processors.specs.Processors.{listOk, coversOne}
 use Rattle.calls.specs.Answers.{refusal}
 use Rattle.calls.specs.declared.answer.Answer.{Answer}
 use Rattle.calls.specs.declared.answer.Written.{Written as WrittenNumbers}

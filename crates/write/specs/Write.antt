@@ -29,7 +29,7 @@ use Rattle.store.specs.Blocks.{fromBlock, blockCount}
 use Rattle.store.specs.Scan.{sizeAt, storeOk}
 use Rattle.placement.specs.Held.{Held}
 use Rattle.placement.specs.Choose.{torn, choose}
-use Rattle.outcome.specs.Processors.{listOk, coversOne}
+use Rattle.processors.specs.Processors.{listOk, coversOne}
 use Rattle.outcome.specs.Bytes.{outcomeBytes}
 use Rattle.calls.specs.Answers.{refusal}
 use Rattle.calls.specs.declared.answer.Answer.{Answer}

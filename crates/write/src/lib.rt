@@ -1,5 +1,4 @@
 // The write call: its checks in their order, the marks of the stored updates, the choice of the run, and the bytes.
 pub mod marks;
 pub mod plan;
-pub mod processors;
 pub mod write;

@@ -3,7 +3,7 @@ use borrow.Author.Needs.{needs}
 use mathlib.Core.Path.{_≡_}
 use Prim.Native.Nat.{_≤_, _-_}
 use Rattle.laws.specs.Count.{countBelow, counting}
-use Rattle.placement.specs.Marks.{markAt}
+use Rattle.laws.specs.Arrays.{markAt}
 use Rattle.placement.proofs.shared.Statement.{statement}
 use Rattle.placement.proofs.shared.Tie as tie
 

@@ -5,7 +5,8 @@ use mathlib.Core.Bool.{false}
 use Prim.Native.Nat.{_≤_, _-_}
 use Rattle.laws.specs.Below.{anyBelow}
 use Rattle.laws.specs.Loops.{scan}
-use Rattle.placement.specs.Marks.{markAt, bothAt}
+use Rattle.placement.specs.Marks.{bothAt}
+use Rattle.laws.specs.Arrays.{markAt}
 use Rattle.placement.proofs.torn.Statement.{statement}
 use Rattle.placement.proofs.torn.Tie as tie
 

@@ -1,6 +1,6 @@
 -- `write::write::write` meets its contract: checks 1 to 4, each with its refusal, then the rest. Demand 3 follows from the two equations.
 use borrow.Author.Needs.{needs}
-use Rattle.write.specs.ListLaws.{list-right}
+use Rattle.processors.specs.ListLaws.{list-right}
 use Rattle.write.specs.PlanCases.{plans, good-plan}
 use Rattle.write.specs.WriteCases.{meant-refused, meant-good}
 use Rattle.write.proofs.write.write.Statement.{statement}

@@ -1,6 +1,6 @@
 -- `write::write::write_good` meets its contract: check 5, then the marks, checks 6 to 9 and the bytes.
 use borrow.Author.Needs.{needs}
-use Rattle.write.specs.ListLaws.{list-few, list-same}
+use Rattle.processors.specs.ListLaws.{list-few, list-same}
 use Rattle.store.specs.ValidLaws.{blocks-few}
 use Rattle.write.specs.PlanCases.{good-absent, good-marked}
 use Rattle.write.specs.Storing.{planned-storable}
