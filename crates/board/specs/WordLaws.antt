@@ -16,20 +16,20 @@ use borrow.Author.Tests.{ltb-true}
 use Rattle.laws.specs.Bools.{and-parts}
 use Rattle.laws.specs.First.{first-is}
 use Rattle.laws.specs.Unless.{unless}
-use Rattle.update.specs.Fields.{revision, dataSize}
-use Rattle.store.specs.Blocks.{fromBlock, blockCount}
+use Rattle.header.specs.Fields.{revision, dataSize}
+use Rattle.blocks.specs.Blocks.{fromBlock, blockCount}
 use Rattle.coverage.specs.Covers.{covers}
 use Rattle.update.specs.VerdictLaws.{judged, good-size}
 use Rattle.store.specs.Scan.{slotAt, first, storeOk}
 use Rattle.store.specs.SlotLaws.{slotted}
 use Rattle.store.specs.ValidLaws.{store-valid}
-use Rattle.calls.specs.declared.answer.Presence.{Presence as PresenceNumbers}
-use Rattle.calls.specs.declared.answer.Written.{Written as WrittenNumbers}
-use Rattle.calls.specs.declared.answer.Control.{Control as ControlNumbers}
-use Rattle.calls.specs.declared.answer.Read.{Read as ReadNumbers}
-use Rattle.calls.specs.declared.answer.Refused.{Refused as RefusedNumbers}
-use Rattle.calls.specs.declared.answer.Answer.{Answer}
-use Rattle.calls.specs.declared.answer.Answer.the-variants.{Presence, Written, Control, Read, Refused}
+use Rattle.answers.specs.declared.answer.Presence.{Presence as PresenceNumbers}
+use Rattle.answers.specs.declared.answer.Written.{Written as WrittenNumbers}
+use Rattle.answers.specs.declared.answer.Control.{Control as ControlNumbers}
+use Rattle.answers.specs.declared.answer.Read.{Read as ReadNumbers}
+use Rattle.answers.specs.declared.answer.Refused.{Refused as RefusedNumbers}
+use Rattle.answers.specs.declared.answer.Answer.{Answer}
+use Rattle.answers.specs.declared.answer.Answer.the-variants.{Presence, Written, Control, Read, Refused}
 use Rattle.view.specs.View.{dataPart}
 use Rattle.load.specs.Load.{holds, holder, chosenAt, found, loadChoice, chosenData}
 use Rattle.load.specs.declared.LoadChoice.{LoadChoice}

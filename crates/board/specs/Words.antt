@@ -13,11 +13,11 @@ use mathlib.Core.Bool.{Bool, cond, not}
 use mathlib.Core.List.{List, [], _∷_, _++_}
 use lib.ListN.{length, replicate}
 use lib.Dec.{eqb}
-use Rattle.update.specs.Fields.{dataSize}
-use Rattle.store.specs.Blocks.{fromBlock}
-use Rattle.calls.specs.Answers.{ahOf, alOf, carryOf, caseOf, numbersOf}
-use Rattle.calls.specs.declared.answer.Answer.{Answer}
-use Rattle.calls.specs.declared.answer.Reply.{Reply}
+use Rattle.header.specs.Fields.{dataSize}
+use Rattle.blocks.specs.Blocks.{fromBlock}
+use Rattle.answers.specs.Answers.{ahOf, alOf, carryOf, caseOf, numbersOf}
+use Rattle.answers.specs.declared.answer.Answer.{Answer}
+use Rattle.answers.specs.declared.answer.Reply.{Reply}
 use Rattle.load.specs.declared.LoadChoice.{LoadChoice}
 use Rattle.load.specs.declared.LoadChoice.the-variants.{Refused, Nothing, Chosen}
 

@@ -4,10 +4,9 @@ ghost use mathlib.Core.Bool.{not};
 ghost use lib.Dec.{eqb};
 ghost use Rattle.board.specs.Words.{flagWord, axOf, answerWords, loadAx, loadWords};
 ghost use Rattle.board.specs.WordLaws.{rowOf, StartBelow32};
-use calls::answer::Answer;
+use answers::answer::Answer;
+use header::sizes;
 use load::LoadChoice;
-use store::blocks;
-use update::sizes;
 
 // 1 for true, 0 for false.
 fn flag_word(x: bool) -> u32

@@ -1,6 +1,4 @@
--- The update calls (document 01, "Codes" and "The calls").
-pub mod Answers
+-- The update calls that only read a store (document 01, "The calls").
 pub mod Presence
-pub mod Control
 pub mod Read
 pub mod ReadLaws

@@ -8,13 +8,13 @@ use mathlib.Core.Bool.{true, false}
 use mathlib.Core.List.{List}
 use lib.ListN.{length}
 use Rattle.laws.specs.Unless.{unless, unless-pass, unless-stop}
-use Rattle.store.specs.Blocks.{blockCount}
+use Rattle.blocks.specs.Blocks.{blockCount}
 use Rattle.store.specs.Scan.{storeOk, directory}
 use Rattle.store.specs.StoreLaws.{directory-ok}
 use Rattle.store.specs.declared.directory.Directory.{Directory}
-use Rattle.calls.specs.Answers.{refusal}
-use Rattle.calls.specs.declared.answer.Answer.{Answer}
-use Rattle.calls.specs.declared.answer.Answer.the-variants.{Presence}
+use Rattle.answers.specs.Answers.{refusal}
+use Rattle.answers.specs.declared.answer.Answer.{Answer}
+use Rattle.answers.specs.declared.answer.Answer.the-variants.{Presence}
 
 -- I N T E L P E P, then the loader version and N
 abbrev pub present : ℕ → Answer

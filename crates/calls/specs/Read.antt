@@ -9,14 +9,14 @@ use mathlib.Core.List.{List, _++_}
 use lib.ListN.{length, take, drop}
 use lib.Dec.{leb, ltb}
 use Rattle.laws.specs.Unless.{unless}
-use Rattle.store.specs.Blocks.{blockCount, fromBlock}
+use Rattle.blocks.specs.Blocks.{blockCount, fromBlock}
 use Rattle.store.specs.Scan.{storeOk}
 use Rattle.store.specs.Kind.{kindAt}
 use Rattle.store.specs.declared.kind.Kind.{Kind}
 use Rattle.store.specs.declared.kind.Kind.the-variants.{Free, First, Later}
-use Rattle.calls.specs.Answers.{refusal}
-use Rattle.calls.specs.declared.answer.Answer.{Answer}
-use Rattle.calls.specs.declared.answer.Answer.the-variants.{Presence, Written, Control, Read, Refused}
+use Rattle.answers.specs.Answers.{refusal}
+use Rattle.answers.specs.declared.answer.Answer.{Answer}
+use Rattle.answers.specs.declared.answer.Answer.the-variants.{Presence, Written, Control, Read, Refused}
 
 unfoldable pub readBlocks : ℕ → ℕ → Answer
 readBlocks k m = unless (leb (k * 2048) m) (refusal 0x92 3) (Read (record { blocks = k }))

@@ -11,20 +11,20 @@ use lib.Dec.{leb, ltb}
 use borrow.Author.Tests.{lt-ltb, le-ltb, leb-true}
 use Rattle.laws.specs.Unless.{unless}
 use Rattle.paste.specs.Paste.{putAt, put-first}
-use Rattle.store.specs.Blocks.{blockCount, fromBlock}
+use Rattle.blocks.specs.Blocks.{blockCount, fromBlock}
 use Rattle.store.specs.Scan.{slotAt, begins, storeOk, directory}
 use Rattle.store.specs.Kind.{kindOf, kindAt, kindIn}
 use Rattle.store.specs.SlotLaws.{slot-inside, unused-filled}
 use Rattle.store.specs.StoreLaws.{directory-ok, directory-good}
 use Rattle.store.specs.DirectoryLaws.{kind-law}
 use Rattle.store.specs.declared.directory.Directory.{Directory}
-use Rattle.store.specs.declared.slot.Slot.{Slot}
-use Rattle.store.specs.declared.slot.Slot.the-variants.{Unused, Update, Bad}
+use Rattle.blocks.specs.declared.slot.Slot.{Slot}
+use Rattle.blocks.specs.declared.slot.Slot.the-variants.{Unused, Update, Bad}
 use Rattle.store.specs.declared.kind.Kind.{Kind}
 use Rattle.store.specs.declared.kind.Kind.the-variants.{Free, First, Later}
-use Rattle.calls.specs.Answers.{refusal}
-use Rattle.calls.specs.declared.answer.Answer.{Answer}
-use Rattle.calls.specs.declared.answer.Answer.the-variants.{Read}
+use Rattle.answers.specs.Answers.{refusal}
+use Rattle.answers.specs.declared.answer.Answer.{Answer}
+use Rattle.answers.specs.declared.answer.Answer.the-variants.{Read}
 use Rattle.calls.specs.Read.{readBlocks, readKind, readAnswer, blocksRead, readBytes}
 
 -- the answer by the kind, where r is the kind that a call gave

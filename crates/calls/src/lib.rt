@@ -1,6 +1,4 @@
-// The update calls: their answers, and the calls that only read. No function has a `requires` that a caller could break: any bytes, any
-// lengths and any numbers end in a defined answer.
-pub mod answer;
-pub mod control;
+// The update calls that only read a store. No function has a `requires` that a caller could break: any bytes, any lengths and any numbers end
+// in a defined answer.
 pub mod presence;
 pub mod read;

@@ -1,9 +1,9 @@
 // Sub-function 0, presence.
 ghost use mathlib.Core.Path.{_≡_};
 ghost use Rattle.calls.specs.Presence.{presenceAnswer};
-use crate::answer;
-use crate::answer::Answer;
-use crate::answer::Presence;
+use answers::answer;
+use answers::answer::Answer;
+use answers::answer::Presence;
 use store::directory;
 
 pub fn presence(store: &[u8]) -> Answer

@@ -2,10 +2,9 @@
 ghost use mathlib.Core.Path.{_≡_};
 ghost use lib.ListN.{length};
 ghost use Rattle.calls.specs.Read.{readBlocks, readKind, readAnswer, blocksRead, readBytes};
-use crate::answer;
-use crate::answer::Answer;
-use crate::answer::Read;
-use store::blocks;
+use answers::answer;
+use answers::answer::Answer;
+use answers::answer::Read;
 use store::directory;
 use store::kind;
 use store::kind::Kind;

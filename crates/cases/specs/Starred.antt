@@ -18,16 +18,17 @@ use Rattle.laws.specs.Unless.{unless}
 use Rattle.laws.specs.LowByte.{bit}
 use Rattle.dwords.specs.Dword.{dword}
 use Rattle.dwords.specs.Sum.{dwordsOf, total, dwordSum}
-use Rattle.update.specs.Fields.{dataSizeOf, totalSizeOf, dataSize, totalSize}
-use Rattle.update.specs.Sizes.{sizesOk, tableCount, entriesOf, entryCount, blocksOf}
-use Rattle.update.specs.Sums.{sumOf, headerSum, entryOffset, entryOk, table, sumsOk}
-use Rattle.update.specs.Verdict.{headerOk, sizesFit, verdict}
+use Rattle.header.specs.Fields.{dataSizeOf, totalSizeOf, dataSize, totalSize}
+use Rattle.header.specs.Sizes.{sizesOk, tableCount, entriesOf, entryCount, blocksOf, entryOffset}
+use Rattle.update.specs.Sums.{sumOf, headerSum, entryOk, table, sumsOk}
+use Rattle.header.specs.Checks.{headerOk, sizesFit}
+use Rattle.update.specs.Verdict.{verdict}
 use Rattle.coverage.specs.Covers.{pairCount, signatureOffset, flagsOffset, signatureAt, flagsAt, platformsAt, names, pairCovers, coversAt, covers}
 use Rattle.placement.specs.Held.{Held}
 use Rattle.placement.specs.Choose.{touches, goes, bars, loses, barred, lost, choose}
-use Rattle.calls.specs.Answers.{refusal}
-use Rattle.calls.specs.declared.answer.Answer.{Answer}
-use Rattle.write.specs.Write.{written, placed}
+use Rattle.answers.specs.Answers.{refusal}
+use Rattle.answers.specs.declared.answer.Answer.{Answer}
+use Rattle.plan.specs.Plan.{written, placed}
 use Rattle.update.specs.declared.verdict.Verdict.the-variants.{Good, BadSum}
 
 bytes : ℕ → List ℕ

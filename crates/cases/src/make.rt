@@ -1,6 +1,6 @@
 // Updates made in a lent buffer of zeros. A write behind the buffer's end is left out.
 ghost use Prim.Native.Nat.{_<_, _^_};
-use update::fields;
+use header::fields;
 
 // Writes one dword.
 pub fn put(buf: &mut [u8], at: usize, x: u32) {

@@ -1,9 +1,9 @@
 // A line of output for each kind of answer.
 use crate::make;
-use calls::answer::Answer;
+use answers::answer::Answer;
 use libc::STDOUT_FILENO;
 use load::LoadChoice;
-use report::Report;
+use text::Report;
 use update::verdict::Verdict;
 
 pub fn text(s: &[u8]) {
@@ -52,7 +52,7 @@ pub fn covers(label: &[u8], s: &[u8], signature: u32, platform: u32) {
 
 pub fn shares(label: &[u8], a: &[u8], b: &[u8]) {
     text(label);
-    answer(coverage::shares::shares(a, b));
+    answer(sharing::shares(a, b));
 }
 
 pub fn platforms(label: &[u8], s: &[u8]) {

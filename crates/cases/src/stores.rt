@@ -52,7 +52,7 @@ fn presences() {
 }
 
 fn control(label: &[u8], task: u32, loading: bool) {
-    let r = calls::control::control(task, loading);
+    let r = answers::control::control(task, loading);
     let on = r.loading;
     let answer = r.answer;
     say::reply(label, answer);

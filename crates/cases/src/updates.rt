@@ -53,7 +53,7 @@ fn unsealed_table(label: &[u8]) {
     let buf: &mut [u8] = &mut space;
     make::tabled(buf, 0x650, 6, 1968, 1);
     make::put(buf, 2024, 2);
-    let checksum = update::fields::checksum(buf);
+    let checksum = header::fields::checksum(buf);
     make::put(buf, 16, std::num::wrapping_sub_u32(checksum, 1));
     let entry = dwords::dword(buf, 2044);
     make::put(buf, 2044, std::num::wrapping_sub_u32(entry, 1));

@@ -1,7 +1,7 @@
 // Reads a store from standard input and writes its catalogue.
 use libc::STDIN_FILENO;
 use libc::STDOUT_FILENO;
-use report::Report;
+use text::Report;
 
 // Is there another byte? It is taken.
 fn more() -> bool {

@@ -7,7 +7,7 @@
 --   names                         the flags f name platform p, 0 to 7
 --   pairCovers, coversAt          a pair, and pair i, has the signature and names the platform
 --   covers                        some pair does
---   Covers                        the same in the document's words; `ShareLaws` joins the two
+--   Covers                        the same in the document's words; `CoverLaws` joins the two
 use Prim.Native.Nat.{ℕ, _+_, _-_, _%_, _<_}
 use mathlib.Core.Path.{_≡_}
 use mathlib.Core.Bool.{Bool, true, cond, _&&_}
@@ -17,10 +17,9 @@ use Rattle.laws.specs.Below.{anyBelow}
 use Rattle.laws.specs.Unless.{unless}
 use Rattle.laws.specs.LowByte.{bit}
 use Rattle.dwords.specs.Dword.{dword}
-use Rattle.update.specs.Fields.{dataSize}
-use Rattle.update.specs.Sizes.{entryCount}
-use Rattle.update.specs.Sums.{entryOffset}
-use Rattle.update.specs.Verdict.{headerOk, sizesFit}
+use Rattle.header.specs.Fields.{dataSize}
+use Rattle.header.specs.Sizes.{entryCount, entryOffset}
+use Rattle.header.specs.Checks.{headerOk, sizesFit}
 
 unfoldable pub pairCount : List ℕ → ℕ
 pairCount s = unless (headerOk s) 0 (unless (sizesFit s) 0 (entryCount s + 1))

@@ -1,7 +1,5 @@
--- Which processors an update covers (document 01, "The update" and "The store"): definitions, then the laws that the code and the layers above use.
+-- Which processors an update covers (document 01, "The update"): definitions, then the laws that the code and the layers above use.
 pub mod Covers
-pub mod Shares
 pub mod Platforms
 pub mod PairLaws
-pub mod ShareLaws
-pub mod Local
+pub mod CoverLaws

@@ -12,11 +12,10 @@ use lib.ListN.{length}
 use lib.Dec.{eqb}
 use borrow.Author.Tests.{ne-eqb}
 use Rattle.laws.specs.Unless.{unless}
-use Rattle.update.specs.Fields.{dataSize, totalSize}
-use Rattle.update.specs.Sizes.{entryCount}
-use Rattle.update.specs.Sums.{entryOffset}
-use Rattle.update.specs.Verdict.{headerOk, sizesFit}
-use Rattle.update.specs.SizeLaws.{inside, entry-count-is}
+use Rattle.header.specs.Fields.{dataSize, totalSize}
+use Rattle.header.specs.Sizes.{entryCount, entryOffset}
+use Rattle.header.specs.Checks.{headerOk, sizesFit}
+use Rattle.header.specs.SizeLaws.{inside, entry-count-is}
 use Rattle.coverage.specs.Covers.{pairCount, signatureOffset, flagsOffset}
 
 module _ (s : List ℕ) where

@@ -2,20 +2,20 @@
 // pair k + 1). `d` is the number of data bytes, read before.
 ghost use mathlib.Core.Path.{_≡_};
 ghost use Prim.Native.Nat.{_≤_, _<_};
-ghost use Rattle.update.specs.Fields.{dataSize};
+ghost use Rattle.header.specs.Fields.{dataSize};
 ghost use Rattle.coverage.specs.Covers.{pairCount, signatureOffset, flagsOffset, signatureAt, platformsAt, names, pairCovers, coversAt, covers};
-use update::sizes;
-use update::verdict;
+use header::checks;
+use header::sizes;
 
 // How many pairs there are: none where check 2 or 3 of the write fails.
 pub fn pair_count(s: &[u8]) -> u32
     ensures { λ r. ⌜ r ≡ pairCount (now (s .entry)) ⌝ }
 {
-    if verdict::header_ok(s) {
+    if checks::header_ok(s) {
         let d = sizes::data_size(s);
         let t = sizes::total_size(s);
         let n = sizes::table_count(s, d);
-        if verdict::sizes_fit(s, d, t, n) {
+        if checks::sizes_fit(s, d, t, n) {
             sizes::entries_of(d, t, n) + 1
         } else {
             0

@@ -1,4 +1,3 @@
-// The processors that an update covers, and whether two updates share one.
+// The processors that an update covers.
 pub mod covers;
 pub mod platforms;
-pub mod shares;

@@ -2,7 +2,7 @@
 ghost use mathlib.Core.Path.{_≡_};
 ghost use Rattle.coverage.specs.Covers.{platformsAt};
 ghost use Rattle.coverage.specs.Platforms.{platformCount, lowestPlatform};
-use update::fields;
+use header::fields;
 
 // The flags of the header that count.
 fn header_platforms(s: &[u8]) -> u8

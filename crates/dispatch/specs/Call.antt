@@ -10,12 +10,12 @@ use mathlib.Core.Bool.{Bool, cond, _&&_}
 use mathlib.Core.List.{List}
 use lib.Dec.{eqb}
 use Rattle.laws.specs.Unless.{unless}
-use Rattle.calls.specs.Answers.{refusal}
+use Rattle.answers.specs.Answers.{refusal}
 use Rattle.calls.specs.Presence.{presenceAnswer}
-use Rattle.calls.specs.Control.{controlReply}
+use Rattle.answers.specs.Control.{controlReply}
 use Rattle.calls.specs.Read.{readAnswer, readBytes}
-use Rattle.calls.specs.declared.answer.Answer.{Answer}
-use Rattle.calls.specs.declared.answer.Reply.{Reply}
+use Rattle.answers.specs.declared.answer.Answer.{Answer}
+use Rattle.answers.specs.declared.answer.Reply.{Reply}
 use Rattle.write.specs.Write.{writeAnswer, writeBytes}
 
 -- an answer that leaves the loading state as it was

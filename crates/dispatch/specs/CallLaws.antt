@@ -9,10 +9,10 @@ use lib.ListN.{length}
 use borrow.Author.Tests.{eq-eqb, ne-eqb}
 use Rattle.laws.specs.Unless.{unless}
 use Rattle.calls.specs.Presence.{presenceAnswer}
-use Rattle.calls.specs.Control.{controlReply}
+use Rattle.answers.specs.Control.{controlReply}
 use Rattle.calls.specs.Read.{readAnswer, readBytes}
-use Rattle.calls.specs.declared.answer.Answer.{Answer}
-use Rattle.calls.specs.declared.answer.Reply.{Reply}
+use Rattle.answers.specs.declared.answer.Answer.{Answer}
+use Rattle.answers.specs.declared.answer.Reply.{Reply}
 use Rattle.write.specs.Write.{writeAnswer, writeBytes}
 use Rattle.dispatch.specs.Call.{replied, unknown, callReply, callStore, callDestination}
 

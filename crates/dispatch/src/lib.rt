@@ -2,9 +2,9 @@
 ghost use mathlib.Core.Path.{_≡_};
 ghost use lib.ListN.{length};
 ghost use Rattle.dispatch.specs.Call.{unknown, callReply, callStore, callDestination};
-use calls::answer;
-use calls::answer::Reply;
-use calls::control;
+use answers::answer;
+use answers::answer::Reply;
+use answers::control;
 use calls::presence;
 use calls::read;
 

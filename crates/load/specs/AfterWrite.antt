@@ -5,7 +5,7 @@ use Prim.Native.Nat.{ℕ}
 use mathlib.Core.Path.{_≡_}
 use mathlib.Core.Bool.{true, false}
 use mathlib.Core.List.{List}
-use Rattle.update.specs.Fields.{revision}
+use Rattle.header.specs.Fields.{revision}
 use Rattle.coverage.specs.Covers.{covers}
 use Rattle.processors.specs.Processors.{Listed}
 use Rattle.view.specs.View.{dataPart}

@@ -22,15 +22,15 @@ use Rattle.laws.specs.Bools.{and-parts, and-made, no-true}
 use Rattle.laws.specs.Below.{all-at, anyBelow, any-at, any-fails}
 use Rattle.laws.specs.Same.{same-less}
 use Rattle.laws.specs.Unless.{unless}
-use Rattle.update.specs.Fields.{revision, totalSize}
-use Rattle.update.specs.Sizes.{blocksOf}
+use Rattle.header.specs.Fields.{revision, totalSize}
+use Rattle.header.specs.Sizes.{blocksOf}
 use Rattle.update.specs.Verdict.{verdict}
 use Rattle.update.specs.VerdictLaws.{good-size, good-blocks}
 use Rattle.coverage.specs.Covers.{covers}
-use Rattle.coverage.specs.ShareLaws.{covers-platform}
+use Rattle.coverage.specs.CoverLaws.{covers-platform}
 use Rattle.update.specs.Local.{revision-local}
 use Rattle.update.specs.declared.verdict.Verdict.the-variants.{Good}
-use Rattle.store.specs.Blocks.{fromBlock, blockCount}
+use Rattle.blocks.specs.Blocks.{fromBlock, blockCount}
 use Rattle.store.specs.Scan.{slotAt, first, storeOk}
 use Rattle.store.specs.SlotLaws.{slotted, slot-inside}
 use Rattle.processors.specs.Processors.{platformOk, listOk, Listed}
@@ -38,9 +38,9 @@ use Rattle.outcome.specs.Legal.{Legal}
 use Rattle.outcome.specs.After.{kept, after, After}
 use Rattle.outcome.specs.AfterLaws.{outcome-after}
 use Rattle.outcome.specs.KeptLaws.{kept-parts, kept-made, kept-update}
-use Rattle.calls.specs.declared.answer.Written.{Written as WrittenNumbers}
-use Rattle.calls.specs.declared.answer.Refused.{Refused as RefusedNumbers}
-use Rattle.calls.specs.declared.answer.Answer.the-variants as answers
+use Rattle.answers.specs.declared.answer.Written.{Written as WrittenNumbers}
+use Rattle.answers.specs.declared.answer.Refused.{Refused as RefusedNumbers}
+use Rattle.answers.specs.declared.answer.Answer.the-variants as answers
 use Rattle.write.specs.Write.{goes, bytesAfter, writeAnswer, writeBytes}
 use Rattle.write.specs.Planned.{Planned, plan-written}
 use Rattle.processors.specs.ListLaws.{good-list}

@@ -5,7 +5,7 @@ use mathlib.Core.Path.{_≡_, _∙_}
 use mathlib.Core.List.{List}
 use lib.ListN.{take}
 use Rattle.view.specs.View.{dataPart}
-use Rattle.store.specs.Blocks.{fromBlock}
+use Rattle.blocks.specs.Blocks.{fromBlock}
 use Rattle.load.specs.Load.{chosenData}
 use Rattle.load.specs.declared.LoadChoice.{LoadChoice}
 use Rattle.load.specs.declared.LoadChoice.the-variants.{Refused, Nothing, Chosen}

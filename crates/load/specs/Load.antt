@@ -12,10 +12,10 @@ use mathlib.Core.List.{List, []}
 use lib.Dec.{leb, ltb}
 use Rattle.laws.specs.First.{firstBelow}
 use Rattle.laws.specs.Unless.{unless}
-use Rattle.update.specs.Fields.{revision}
+use Rattle.header.specs.Fields.{revision}
 use Rattle.coverage.specs.Covers.{covers}
 use Rattle.view.specs.View.{dataPart}
-use Rattle.store.specs.Blocks.{fromBlock, blockCount}
+use Rattle.blocks.specs.Blocks.{fromBlock, blockCount}
 use Rattle.store.specs.Scan.{first, storeOk}
 use Rattle.load.specs.declared.LoadChoice.{LoadChoice}
 use Rattle.load.specs.declared.LoadChoice.the-variants.{Refused, Nothing, Chosen}

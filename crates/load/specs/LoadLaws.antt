@@ -13,10 +13,10 @@ use Rattle.laws.specs.Bools.{and-parts, no-true, and-made}
 use Rattle.laws.specs.Below.{anyBelow, any-none, any-more, any-fails, any-false}
 use Rattle.laws.specs.First.{first-found, first-none}
 use Rattle.laws.specs.Unless.{unless}
-use Rattle.update.specs.Fields.{revision}
+use Rattle.header.specs.Fields.{revision}
 use Rattle.coverage.specs.Covers.{covers}
-use Rattle.coverage.specs.ShareLaws.{covers-platform}
-use Rattle.store.specs.Blocks.{fromBlock, blockCount}
+use Rattle.coverage.specs.CoverLaws.{covers-platform}
+use Rattle.blocks.specs.Blocks.{fromBlock, blockCount}
 use Rattle.store.specs.Scan.{first, storeOk, directory}
 use Rattle.store.specs.StoreLaws.{directory-ok, directory-good}
 use Rattle.store.specs.ValidLaws.{store-valid}

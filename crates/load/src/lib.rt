@@ -4,10 +4,9 @@ ghost use mathlib.Core.Bool.{true};
 ghost use Rattle.store.specs.Scan.{directory};
 ghost use Rattle.load.specs.Load.{found, loadChoice, chosenData};
 use coverage::covers;
-use store::blocks;
+use header::fields;
 use store::directory;
 use store::directory::Directory;
-use update::fields;
 use view::parts;
 
 pub enum LoadChoice {

@@ -9,13 +9,13 @@ use mathlib.Core.List.{List}
 use lib.ListN.{length}
 use lib.Dec.{eqb}
 use Rattle.laws.specs.Same.{Same}
-use Rattle.update.specs.Sizes.{blocksOf}
+use Rattle.header.specs.Sizes.{blocksOf}
 use Rattle.update.specs.Verdict.{verdict}
 use Rattle.coverage.specs.Covers.{covers}
 use Rattle.update.specs.declared.verdict.Verdict.the-variants.{Good}
-use Rattle.store.specs.Blocks.{fromBlock, blockCount}
+use Rattle.blocks.specs.Blocks.{fromBlock, blockCount}
 use Rattle.store.specs.Scan.{slotAt, first, storeOk}
-use Rattle.store.specs.declared.slot.Slot.the-variants.{Update}
+use Rattle.blocks.specs.declared.slot.Slot.the-variants.{Update}
 
 -- e is the set of emptied updates, by their first blocks
 unfoldable pub kept : List ℕ → (ℕ → Bool) → ℕ → Bool

@@ -15,18 +15,18 @@ use borrow.Author.Tests.{eqb-true, eq-eqb}
 use Rattle.laws.specs.Bools.{no-true}
 use Rattle.laws.specs.Below.{all-true}
 use Rattle.laws.specs.Same.{Same}
-use Rattle.update.specs.Sizes.{blocksOf}
+use Rattle.header.specs.Sizes.{blocksOf}
 use Rattle.update.specs.Verdict.{verdict}
-use Rattle.coverage.specs.Shares.{Shares}
-use Rattle.coverage.specs.Local.{Alike, shares-move, shares-turn}
+use Rattle.sharing.specs.Shares.{Shares}
+use Rattle.sharing.specs.Local.{Alike, shares-move, shares-turn}
 use Rattle.update.specs.declared.verdict.Verdict.the-variants.{Good}
-use Rattle.store.specs.Blocks.{isFF, filled, fromBlock, blockCount, filled-local}
+use Rattle.blocks.specs.Blocks.{isFF, filled, fromBlock, blockCount, filled-local}
 use Rattle.store.specs.Scan.{single, slotAt, sizeAt, first, storeOk}
 use Rattle.store.specs.Valid.{Owned, Layout, Valid}
 use Rattle.store.specs.SlotLaws.{filled-unused, single-is, unused-filled}
 use Rattle.store.specs.LayoutLaws.{layout-first}
 use Rattle.store.specs.ValidLaws.{store-valid, valid-store}
-use Rattle.store.specs.declared.slot.Slot.the-variants.{Unused, Update}
+use Rattle.blocks.specs.declared.slot.Slot.the-variants.{Unused, Update}
 use Rattle.outcome.specs.Legal.{Legal}
 use Rattle.outcome.specs.Bytes.{emptiedAt, inRun, outcomeBytes}
 use Rattle.outcome.specs.After.{kept, after, After}

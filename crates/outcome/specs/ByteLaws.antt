@@ -19,7 +19,7 @@ use borrow.Author.Tests.{leb-true, ltb-true, le-leb, lt-ltb}
 use Rattle.laws.specs.Bools.{and-parts, and-made, no-true}
 use Rattle.laws.specs.Below.{any-at, any-stop, any-cong}
 use Rattle.laws.specs.Unless.{unless}
-use Rattle.update.specs.Sizes.{blocksOf}
+use Rattle.header.specs.Sizes.{blocksOf}
 use Rattle.store.specs.Scan.{sizeAt, first}
 use Rattle.store.specs.Valid.{Owned}
 use Rattle.outcome.specs.Bytes.{tabulate, ownedBy, emptiedAt, inRun, runByte, clearedByte, outcomeByte, outcomeBytes}

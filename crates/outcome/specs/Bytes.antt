@@ -15,7 +15,7 @@ use lib.ListN.{length, getD}
 use lib.Dec.{leb, ltb}
 use Rattle.laws.specs.Below.{anyBelow}
 use Rattle.laws.specs.Unless.{unless}
-use Rattle.update.specs.Sizes.{blocksOf}
+use Rattle.header.specs.Sizes.{blocksOf}
 use Rattle.store.specs.Scan.{first, sizeAt}
 
 unfoldable pub tabulate : ℕ → ℕ → (ℕ → ℕ) → List ℕ

@@ -19,14 +19,14 @@ use borrow.Author.Tests.{not-true}
 use Rattle.laws.specs.Bools.{and-parts, no-true}
 use Rattle.laws.specs.Orders.{le-or-lt}
 use Rattle.laws.specs.Same.{Same}
-use Rattle.update.specs.Sizes.{blocksOf}
-use Rattle.coverage.specs.Local.{Alike}
-use Rattle.store.specs.Blocks.{fromBlock, blockCount}
+use Rattle.header.specs.Sizes.{blocksOf}
+use Rattle.sharing.specs.Local.{Alike}
+use Rattle.blocks.specs.Blocks.{fromBlock, blockCount}
 use Rattle.store.specs.Scan.{slotSize, slotAt, sizeAt, first}
 use Rattle.store.specs.Valid.{Owned, Valid}
 use Rattle.store.specs.SlotLaws.{update-local, update-alike, ends-inside}
 use Rattle.store.specs.LayoutLaws.{size-some, owned-one, first-parts}
-use Rattle.store.specs.declared.slot.Slot.the-variants.{Update}
+use Rattle.blocks.specs.declared.slot.Slot.the-variants.{Update}
 use Rattle.outcome.specs.Legal.{Legal}
 use Rattle.outcome.specs.Bytes.{emptiedAt, inRun, outcomeBytes}
 use Rattle.outcome.specs.After.{kept}

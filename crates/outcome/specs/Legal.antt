@@ -8,9 +8,9 @@ use mathlib.Core.Bool.{Bool, true, _&&_}
 use mathlib.Core.List.{List}
 use mathlib.Core.Logic.{_⊎_}
 use Rattle.laws.specs.Count.{countBelow}
-use Rattle.update.specs.Sizes.{blocksOf}
-use Rattle.coverage.specs.Shares.{Shares}
-use Rattle.store.specs.Blocks.{fromBlock, blockCount}
+use Rattle.header.specs.Sizes.{blocksOf}
+use Rattle.sharing.specs.Shares.{Shares}
+use Rattle.blocks.specs.Blocks.{fromBlock, blockCount}
 use Rattle.store.specs.Scan.{first}
 use Rattle.store.specs.Kind.{kindAt}
 use Rattle.store.specs.Valid.{Owned}

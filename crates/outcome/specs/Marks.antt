@@ -25,8 +25,8 @@ use Rattle.laws.specs.Below.{anyBelow, any-at, any-stop}
 use Rattle.laws.specs.Orders.{le-or-lt}
 use Rattle.laws.specs.Unless.{unless}
 use Rattle.paste.specs.Paste.{putAt, fillAt}
-use Rattle.update.specs.Sizes.{blocksOf}
-use Rattle.store.specs.Blocks.{blockCount}
+use Rattle.header.specs.Sizes.{blocksOf}
+use Rattle.blocks.specs.Blocks.{blockCount}
 use Rattle.store.specs.Scan.{sizeAt, first}
 use Rattle.store.specs.DirectoryLaws.{Listing}
 use Rattle.store.specs.declared.directory.Directory.{Directory}

@@ -13,16 +13,16 @@ use borrow.Author.Tests.{lt-ltb, le-ltb, eq-eqb}
 use Rattle.laws.specs.Below.{all-true}
 use Rattle.laws.specs.Same.{Same}
 use Rattle.laws.specs.Unless.{unless}
-use Rattle.update.specs.Sizes.{blocksOf}
+use Rattle.header.specs.Sizes.{blocksOf}
 use Rattle.update.specs.Verdict.{verdict}
 use Rattle.update.specs.VerdictLaws.{judged}
 use Rattle.update.specs.Local.{verdict-local}
-use Rattle.coverage.specs.Local.{covers-local, Alike}
+use Rattle.sharing.specs.Local.{covers-local, Alike}
 use Rattle.update.specs.declared.verdict.Verdict.the-variants.{Good}
-use Rattle.store.specs.Blocks.{isFF, filled, fromBlock}
+use Rattle.blocks.specs.Blocks.{isFF, filled, fromBlock}
 use Rattle.store.specs.Scan.{slotSize, slotAt, sizeAt}
 use Rattle.store.specs.SlotLaws.{fits-made, update-made}
-use Rattle.store.specs.declared.slot.Slot.the-variants.{Update}
+use Rattle.blocks.specs.declared.slot.Slot.the-variants.{Update}
 use Rattle.outcome.specs.Bytes.{runByte, outcomeBytes}
 use Rattle.outcome.specs.ByteLaws.{at-run, outcome-length, outcome-run}
 

@@ -19,8 +19,9 @@ use borrow.Author.Tests.{not-true}
 use Rattle.laws.specs.Bools.{and-parts, no-true}
 use Rattle.laws.specs.Below.{allBelow, anyBelow, any-at, any-stop, any-cong}
 use Rattle.coverage.specs.Covers.{covers}
-use Rattle.coverage.specs.Shares.{shares}
-use Rattle.coverage.specs.ShareLaws.{covers-platform, shares-law}
+use Rattle.sharing.specs.Shares.{shares}
+use Rattle.coverage.specs.CoverLaws.{covers-platform}
+use Rattle.sharing.specs.ShareLaws.{shares-law}
 
 -- platform number i is at most 7
 unfoldable pub platformOk : List ℕ → ℕ → Bool

@@ -3,14 +3,14 @@ ghost use mathlib.Core.Path.{_≡_};
 ghost use Prim.Native.Nat.{_≤_, _<_};
 ghost use mathlib.Core.Bool.{not, _&&_};
 ghost use lib.ListN.{length};
-ghost use Rattle.update.specs.Fields.{dataSize};
+ghost use Rattle.header.specs.Fields.{dataSize};
 ghost use Rattle.coverage.specs.Covers.{pairCount};
 ghost use Rattle.laws.specs.Below.{anyBelow};
 ghost use Rattle.processors.specs.Processors.{platformOk, listOk, coversListed};
 ghost use Rattle.laws.specs.Arrays.{markAt};
 ghost use Rattle.processors.specs.Covered.{Covered, keepsBy};
 use coverage::covers;
-use update::sizes;
+use header::sizes;
 
 fn platform_ok(platforms: &[u8], i: usize) -> bool
     requires { ⌜ i < length (now platforms) ⌝ }

@@ -11,14 +11,14 @@
 use Prim.Native.Nat.{ℕ, zero, suc, _+_}
 use mathlib.Core.List.{List, [], _∷_, _++_}
 use Rattle.laws.specs.Unless.{unless}
-use Rattle.update.specs.Fields.{revision}
+use Rattle.header.specs.Fields.{revision}
 use Rattle.coverage.specs.Platforms.{platformCount, lowestPlatform}
-use Rattle.store.specs.Blocks.{fromBlock, blockCount}
+use Rattle.blocks.specs.Blocks.{fromBlock, blockCount}
 use Rattle.store.specs.Scan.{storeOk}
 use Rattle.store.specs.Kind.{kindAt}
 use Rattle.store.specs.declared.kind.Kind.{Kind}
 use Rattle.store.specs.declared.kind.Kind.the-variants.{Free, First, Later}
-use Rattle.report.specs.Digits.{decimal, hex8}
+use Rattle.text.specs.Digits.{decimal, hex8}
 
 abbrev pub space : List ℕ
 space = 32 ∷ []

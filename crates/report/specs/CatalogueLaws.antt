@@ -13,17 +13,17 @@ use native.Mathlib.Omega.{arith}
 use native.Mathlib.Numerals.{add-one}
 use lib.ListN.{length}
 use Rattle.laws.specs.Unless.{unless}
-use Rattle.store.specs.Blocks.{blockCount}
+use Rattle.blocks.specs.Blocks.{blockCount}
 use Rattle.store.specs.Scan.{storeOk, directory}
 use Rattle.store.specs.Kind.{kindAt, kindIn}
 use Rattle.store.specs.StoreLaws.{directory-ok}
 use Rattle.store.specs.DirectoryLaws.{kind-law}
 use Rattle.store.specs.declared.kind.Kind.{Kind}
 use Rattle.store.specs.declared.directory.Directory.{Directory}
-use Rattle.report.specs.Digits.{decimal}
+use Rattle.text.specs.Digits.{decimal}
 use Rattle.report.specs.Catalogue.{newline, blocksWord, freeWord, badText, blockLine, linesTo, oneIfFree, freeTo, catalogueText}
-use Rattle.report.specs.Texts.{Added, added-none, added-both}
-use Rattle.report.specs.declared.text.Text.{Text}
+use Rattle.text.specs.Texts.{Added, added-none, added-both}
+use Rattle.text.specs.declared.Text.{Text}
 
 -- d is the local that holds the directory
 module _ (s : List ℕ) (d : Directory) (e : d ≡ directory s) where

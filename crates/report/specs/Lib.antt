@@ -1,9 +1,5 @@
--- Texts for people (document 01, "The catalogue"): definitions, then the laws that the code uses.
-pub mod Digits
+-- The catalogue (document 01, "The catalogue"): definitions, then the laws that the code uses.
 pub mod Catalogue
-pub mod Given
-pub mod Lists
-pub mod Texts
-pub mod DigitLaws
+pub mod Reported
 pub mod LineLaws
 pub mod CatalogueLaws

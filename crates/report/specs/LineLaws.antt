@@ -9,10 +9,10 @@ use mathlib.Core.List.{List}
 use native.Mathlib.Omega.{arith}
 use Rattle.laws.specs.Count.{count-most}
 use Rattle.laws.specs.First.{first-is}
-use Rattle.update.specs.Fields.{revision}
+use Rattle.header.specs.Fields.{revision}
 use Rattle.coverage.specs.Covers.{platformsAt, names}
 use Rattle.coverage.specs.Platforms.{platformCount, lowestPlatform}
-use Rattle.store.specs.Blocks.{fromBlock, blockCount}
+use Rattle.blocks.specs.Blocks.{fromBlock, blockCount}
 use Rattle.store.specs.Scan.{slotAt, begins, storeOk}
 use Rattle.store.specs.Kind.{kindAt}
 use Rattle.store.specs.SlotLaws.{ends-inside}
@@ -21,8 +21,8 @@ use Rattle.store.specs.ValidLaws.{store-valid}
 use Rattle.store.specs.declared.kind.Kind.{Kind}
 use Rattle.store.specs.declared.kind.Kind.the-variants.{Free, First, Later}
 use Rattle.report.specs.Catalogue.{lineOf, kindLine, blockLine}
-use Rattle.report.specs.Texts.{Added, added-none}
-use Rattle.report.specs.declared.text.Text.{Text}
+use Rattle.text.specs.Texts.{Added, added-none}
+use Rattle.text.specs.declared.Text.{Text}
 
 module _ (u : List ℕ) (n : ℕ) where
   pub few-platforms : n ≡ platformCount u → n < 100

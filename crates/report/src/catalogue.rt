@@ -3,19 +3,18 @@ ghost use mathlib.Core.Path.{_≡_};
 ghost use mathlib.Core.Bool.{true};
 ghost use Prim.Native.Nat.{_≤_};
 ghost use lib.ListN.{length};
-ghost use Rattle.store.specs.Blocks.{blockCount};
+ghost use Rattle.blocks.specs.Blocks.{blockCount};
 ghost use Rattle.store.specs.Scan.{storeOk, directory};
 ghost use Rattle.report.specs.Catalogue.{catalogueText};
-ghost use Rattle.report.specs.Given.{reported, reportedBytes};
-ghost use Rattle.report.specs.Texts.{textOf};
-use crate::Report;
-use crate::give;
+ghost use Rattle.report.specs.Reported.{reported, reportedBytes};
+ghost use Rattle.text.specs.Texts.{textOf};
 use crate::lines;
-use crate::text;
-use crate::text::Text;
 use store::directory;
 use store::directory::Directory;
 use store::kind;
+use text::Report;
+use text::Text;
+use text::give;
 
 // The text of a valid store of `n` blocks, whose directory `d` is.
 fn listing(s: &[u8], d: Directory, n: u32) -> Text

@@ -3,18 +3,16 @@ ghost use mathlib.Core.Path.{_≡_};
 ghost use mathlib.Core.Bool.{true};
 ghost use Prim.Native.Nat.{_+_, _≤_, _<_};
 ghost use mathlib.Core.List.{[], _∷_, _++_};
-ghost use Rattle.store.specs.Blocks.{blockCount};
+ghost use Rattle.blocks.specs.Blocks.{blockCount};
 ghost use Rattle.store.specs.Scan.{storeOk};
 ghost use Rattle.store.specs.Kind.{kindAt};
-ghost use Rattle.report.specs.Digits.{decimal};
+ghost use Rattle.text.specs.Digits.{decimal};
 ghost use Rattle.report.specs.Catalogue.{lineOf, blockLine, oneIfFree};
-ghost use Rattle.report.specs.Texts.{Added};
-use crate::text;
-use crate::text::Text;
+ghost use Rattle.text.specs.Texts.{Added};
 use coverage::platforms;
-use store::blocks;
+use header::fields;
 use store::kind::Kind;
-use update::fields;
+use text::Text;
 
 // A number below 100 and the byte behind it.
 pub fn number(t: Text, n: u32, end: u8) -> Text

@@ -2,7 +2,7 @@
 ghost use Prim.Native.Nat.{_<_, _^_};
 use crate::layout;
 use crate::layout::Layout;
-use update::fields;
+use header::fields;
 
 // Writes one dword.
 fn put(buf: &mut [u8], at: usize, x: u32) {

@@ -5,8 +5,8 @@ use crate::make;
 use crate::outcomes;
 use crate::outcomes::Outcome;
 use crate::outcomes::Set;
-use calls::answer;
-use calls::answer::Answer;
+use answers::answer;
+use answers::answer::Answer;
 
 // What was seen of one write: whether it was as it should be, and its AL or its emptied count.
 pub struct Seen {

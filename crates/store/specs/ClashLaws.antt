@@ -15,10 +15,10 @@ use lib.ListN.{getD, set, replicate}
 use Rattle.laws.specs.Below.{anyBelow, any-more, any-stop}
 use Rattle.laws.specs.Loops.{scan-more}
 use Rattle.laws.specs.Arrays.{Filled, filled-none, filled-more}
-use Rattle.update.specs.Fields.{dataSize}
+use Rattle.header.specs.Fields.{dataSize}
 use Rattle.coverage.specs.Covers.{pairCount}
-use Rattle.coverage.specs.Shares.{shares}
-use Rattle.store.specs.Blocks.{fromBlock}
+use Rattle.sharing.specs.Shares.{shares}
+use Rattle.blocks.specs.Blocks.{fromBlock}
 use Rattle.store.specs.Scan.{clashAt, clashRow, clash}
 
 -- f of the update that begins at number k of xs

@@ -17,7 +17,7 @@ use borrow.Author.Tests.{leb-true, le-leb, ltb-true, ltb-false, lt-ltb, eq-eqb, 
 use Rattle.laws.specs.Bools.{and-parts, and-made}
 use Rattle.laws.specs.Below.{all-at}
 use Rattle.laws.specs.First.{firstBelow, First, first-is}
-use Rattle.store.specs.Blocks.{blockCount}
+use Rattle.blocks.specs.Blocks.{blockCount}
 use Rattle.store.specs.Scan.{slotAt, sizeAt, isBad, begins, first, sound, startsTo, sizesTo, pad, listed, storeOk, directory}
 use Rattle.store.specs.Kind.{kindOf, kindAt, owns, ownsAt, kindIf, kindBy, kindIn}
 use Rattle.store.specs.Valid.{Valid, Owned}
@@ -26,9 +26,8 @@ use Rattle.store.specs.BlockLaws.{listed-first, first-listed, starts-inc
 use Rattle.store.specs.StoreLaws.{pad-at, directory-listed, directory-few}
 use Rattle.store.specs.LayoutLaws.{size-some, first-parts, home, layout-sound}
 use Rattle.store.specs.ValidLaws.{store-valid}
-use Rattle.store.specs.declared.slot.Slot.{Slot}
-use Rattle.store.specs.declared.slot.Slot.the-variants.{Unused, Update, Bad}
-use Rattle.store.specs.declared.kind.Kind.{Kind}
+use Rattle.blocks.specs.declared.slot.Slot.{Slot}
+use Rattle.blocks.specs.declared.slot.Slot.the-variants.{Unused, Update, Bad}
 use Rattle.store.specs.declared.kind.Kind.the-variants as kinds
 use Rattle.store.specs.declared.directory.Directory.{Directory}
 

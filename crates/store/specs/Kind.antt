@@ -15,8 +15,8 @@ use borrow.Author.Tests.{lt-ltb, le-ltb}
 use Rattle.laws.specs.Below.{anyBelow, any-none, any-more}
 use Rattle.laws.specs.First.{firstBelow, first-found, first-none}
 use Rattle.store.specs.Scan.{slotAt, begins}
-use Rattle.store.specs.declared.slot.Slot.{Slot}
-use Rattle.store.specs.declared.slot.Slot.the-variants.{Unused, Update, Bad}
+use Rattle.blocks.specs.declared.slot.Slot.{Slot}
+use Rattle.blocks.specs.declared.slot.Slot.the-variants.{Unused, Update, Bad}
 use Rattle.store.specs.declared.kind.Kind.{Kind}
 use Rattle.store.specs.declared.kind.Kind.the-variants.{Free, First, Later}
 use Rattle.store.specs.declared.directory.Directory.{Directory}

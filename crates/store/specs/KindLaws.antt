@@ -13,8 +13,8 @@ use Rattle.store.specs.Scan.{slotAt, begins, first}
 use Rattle.store.specs.Kind.{kindOf, kindAt}
 use Rattle.store.specs.Valid.{Owned}
 use Rattle.store.specs.LayoutLaws.{first-parts, begins-outside}
-use Rattle.store.specs.declared.slot.Slot.{Slot}
-use Rattle.store.specs.declared.slot.Slot.the-variants.{Unused, Update, Bad}
+use Rattle.blocks.specs.declared.slot.Slot.{Slot}
+use Rattle.blocks.specs.declared.slot.Slot.the-variants.{Unused, Update, Bad}
 use Rattle.store.specs.declared.kind.Kind.the-variants.{Free, First}
 
 pub first-update : (t : Bool) (x : Slot) (k : ℕ) → kindOf t x ≡ First k → x ≡ Update k

@@ -18,14 +18,14 @@ use borrow.Author.Tests.{le-leb, lt-leb}
 use Rattle.laws.specs.Bools.{and-parts, no-true}
 use Rattle.laws.specs.Below.{allBelow, all-at, all-true}
 use Rattle.laws.specs.Orders.{le-or-lt}
-use Rattle.store.specs.Blocks.{fromBlock}
-use Rattle.store.specs.Slot.{slotOf}
+use Rattle.blocks.specs.Blocks.{fromBlock}
+use Rattle.blocks.specs.Slot.{slotOf}
 use Rattle.store.specs.Scan.{slotSize, sizeAt, isUpdate, isBad, single, slotAt, nextSlot, begins, first, sound}
 use Rattle.store.specs.Valid.{Owned, Layout}
 use Rattle.store.specs.SlotLaws.{slot-inside, single-facts}
 use Rattle.store.specs.BlockLaws.{later-blocks, next-begins}
-use Rattle.store.specs.declared.slot.Slot.{Slot}
-use Rattle.store.specs.declared.slot.Slot.the-variants.{Unused, Update, Bad}
+use Rattle.blocks.specs.declared.slot.Slot.{Slot}
+use Rattle.blocks.specs.declared.slot.Slot.the-variants.{Unused, Update, Bad}
 
 pub size-some : (s : List ℕ) (b : ℕ) → 1 ≤ sizeAt s b
 unfolding slotAt

@@ -1,6 +1,4 @@
 -- A store (document 01, "The store"): definitions, then the laws that the code and the layers above use.
-pub mod Blocks
-pub mod Slot
 pub mod Scan
 pub mod Kind
 pub mod Valid

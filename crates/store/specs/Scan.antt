@@ -18,11 +18,11 @@ use mathlib.Core.List.{List, [], _∷_, _++_}
 use lib.ListN.{length, getD, replicate}
 use lib.Dec.{leb}
 use Rattle.laws.specs.Below.{allBelow, anyBelow}
-use Rattle.coverage.specs.Shares.{shares}
-use Rattle.store.specs.Blocks.{fromBlock, blockCount, lengthOk}
-use Rattle.store.specs.Slot.{slotOf}
-use Rattle.store.specs.declared.slot.Slot.{Slot}
-use Rattle.store.specs.declared.slot.Slot.the-variants.{Unused, Update, Bad}
+use Rattle.sharing.specs.Shares.{shares}
+use Rattle.blocks.specs.Blocks.{fromBlock, blockCount, lengthOk}
+use Rattle.blocks.specs.Slot.{slotOf}
+use Rattle.blocks.specs.declared.slot.Slot.{Slot}
+use Rattle.blocks.specs.declared.slot.Slot.the-variants.{Unused, Update, Bad}
 use Rattle.store.specs.declared.directory.Directory.{Directory}
 
 -- how many blocks it has; a bad one makes the store bad, whatever size it gets

@@ -14,7 +14,7 @@ use lib.Dec.{leb}
 use borrow.Author.Tests.{le-leb, lt-leb}
 use Rattle.laws.specs.Below.{allBelow, all-none, all-more}
 use Rattle.store.specs.Scan.{slotAt, nextSlot, begins, first, sound, startsTo, sizesTo, pad}
-use Rattle.store.specs.declared.slot.Slot.the-variants.{Unused, Update, Bad}
+use Rattle.blocks.specs.declared.slot.Slot.the-variants.{Unused, Update, Bad}
 
 replicate-more : (k m : ℕ) → k ≡ suc m → replicate {A = ℕ} k 0 ≡ 0 ∷ replicate m 0
 replicate-more k m e = rw e

@@ -19,19 +19,20 @@ use Rattle.laws.specs.Below.{all-at}
 use Rattle.laws.specs.Unless.{unless}
 use Rattle.laws.specs.Same.{Same, same-less}
 use Rattle.dwords.specs.Dword.{dword}
-use Rattle.update.specs.Fields.{version, loaderVersion}
-use Rattle.update.specs.Sizes.{blocksOf}
-use Rattle.update.specs.Verdict.{headerOk, verdict}
+use Rattle.header.specs.Fields.{version, loaderVersion}
+use Rattle.header.specs.Sizes.{blocksOf}
+use Rattle.header.specs.Checks.{headerOk}
+use Rattle.update.specs.Verdict.{verdict}
 use Rattle.update.specs.VerdictLaws.{judged, good-size}
 use Rattle.update.specs.Local.{verdict-local}
-use Rattle.coverage.specs.Local.{covers-local, Alike}
+use Rattle.sharing.specs.Local.{covers-local, Alike}
 use Rattle.update.specs.declared.verdict.Verdict.{Verdict}
 use Rattle.update.specs.declared.verdict.Verdict.the-variants.{Good, BadHeader, BadSum}
-use Rattle.store.specs.Blocks.{isFF, filled, unused, fromBlock, filled-local}
-use Rattle.store.specs.Slot.{fits, updateSlot, slotOf}
+use Rattle.blocks.specs.Blocks.{isFF, filled, unused, fromBlock, filled-local}
+use Rattle.blocks.specs.Slot.{fits, updateSlot, slotOf}
 use Rattle.store.specs.Scan.{slotAt, slotSize, isUpdate, isBad, single}
-use Rattle.store.specs.declared.slot.Slot.{Slot}
-use Rattle.store.specs.declared.slot.Slot.the-variants.{Unused, Update, Bad}
+use Rattle.blocks.specs.declared.slot.Slot.{Slot}
+use Rattle.blocks.specs.declared.slot.Slot.the-variants.{Unused, Update, Bad}
 
 pub record Slotted (s : List ℕ) (k : ℕ) : Type 0 where
   pub total : ℕ

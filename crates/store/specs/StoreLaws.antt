@@ -13,7 +13,7 @@ use native.Mathlib.Omega.{arith}
 use lib.ListN.{length, getD, replicate, List·getD-append}
 use Rattle.laws.specs.Bools.{and-parts}
 use Rattle.laws.specs.Below.{allBelow, any-cong}
-use Rattle.store.specs.Blocks.{blockCount, lengthOk, length-parts}
+use Rattle.blocks.specs.Blocks.{blockCount, lengthOk, length-parts}
 use Rattle.store.specs.Scan.{sound, startsTo, pad, badStore, listed, scanned, clashAt, clashRow, clash, apart, storeOk, directory}
 use Rattle.store.specs.BlockLaws.{few-starts}
 use Rattle.store.specs.declared.directory.Directory.{Directory}

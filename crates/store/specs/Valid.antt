@@ -9,10 +9,10 @@ use mathlib.Core.Bool.{Bool, true}
 use mathlib.Core.List.{List}
 use mathlib.Core.Logic.{_⊎_}
 use lib.ListN.{length}
-use Rattle.coverage.specs.Shares.{Shares}
-use Rattle.store.specs.Blocks.{fromBlock}
+use Rattle.sharing.specs.Shares.{Shares}
+use Rattle.blocks.specs.Blocks.{fromBlock}
 use Rattle.store.specs.Scan.{slotAt, sizeAt, single}
-use Rattle.store.specs.declared.slot.Slot.the-variants.{Update}
+use Rattle.blocks.specs.declared.slot.Slot.the-variants.{Update}
 
 pub record Owned (s : List ℕ) (u : ℕ → Bool) (b c : ℕ) : Type 0 where
   pub at : u b ≡ true

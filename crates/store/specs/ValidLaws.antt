@@ -16,9 +16,9 @@ use borrow.Author.Tests.{le-leb, not-true}
 use Rattle.laws.specs.Bools.{and-parts, no-true}
 use Rattle.laws.specs.Below.{allBelow, any-fails, any-false}
 use Rattle.laws.specs.Orders.{le-or-lt}
-use Rattle.coverage.specs.Shares.{shares}
-use Rattle.coverage.specs.ShareLaws.{shares-law}
-use Rattle.store.specs.Blocks.{fromBlock, blockCount, lengthOk, length-parts}
+use Rattle.sharing.specs.Shares.{shares}
+use Rattle.sharing.specs.ShareLaws.{shares-law}
+use Rattle.blocks.specs.Blocks.{fromBlock, blockCount, lengthOk, length-parts}
 use Rattle.store.specs.Scan.{first, sound, startsTo, clashAt, clashRow, clash, apart, storeOk, directory}
 use Rattle.store.specs.Valid.{Valid, ValidStore}
 use Rattle.store.specs.StoreLaws.{directory-good}

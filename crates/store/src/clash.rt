@@ -2,10 +2,8 @@
 ghost use mathlib.Core.Path.{_≡_};
 ghost use Prim.Native.Nat.{_≤_};
 ghost use Rattle.store.specs.Scan.{clash};
-use crate::blocks;
 use coverage::covers;
-use coverage::shares;
-use update::sizes;
+use header::sizes;
 
 // Do two of the updates that begin at the first `count` blocks of `starts` cover a common processor? The sizes of each are read once.
 pub fn clash(s: &[u8], starts: [u8; 32], count: usize) -> bool
@@ -28,7 +26,7 @@ pub fn clash(s: &[u8], starts: [u8; 32], count: usize) -> bool
         let mut j: usize = 0;
         while j < i {
             let b = blocks::from_start(s, starts[j]);
-            if shares::shares_with(a, d, m, b, data[j], pairs[j]) {
+            if sharing::shares_with(a, d, m, b, data[j], pairs[j]) {
                 found = true;
                 break 'scan;
             }

@@ -1,7 +1,6 @@
 // The directory of a store: the stored updates in the order of their first blocks.
 ghost use mathlib.Core.Path.{_≡_};
 ghost use Rattle.store.specs.Scan.{badStore, directory};
-use crate::blocks;
 use crate::clash;
 use crate::scan;
 

@@ -2,11 +2,10 @@
 ghost use mathlib.Core.Path.{_≡_};
 ghost use Prim.Native.Nat.{_≤_};
 ghost use Rattle.store.specs.Scan.{scanned};
-use crate::blocks;
 use crate::directory;
 use crate::directory::Directory;
-use crate::slot;
-use crate::slot::Slot;
+use blocks::slot;
+use blocks::slot::Slot;
 
 // Reads the first `n` blocks: the reading goes on behind each update.
 pub fn scan(s: &[u8], n: usize) -> Directory

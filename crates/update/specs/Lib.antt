@@ -1,9 +1,6 @@
 -- One update (document 01, "The update"): definitions in the document's order, then the laws that the code and the layers above use.
-pub mod Fields
-pub mod Sizes
 pub mod Sums
 pub mod Verdict
-pub mod SizeLaws
 pub mod SumLaws
 pub mod VerdictLaws
 pub mod Local

@@ -1,40 +1,26 @@
 -- An update is settled by its T bytes: bytes that agree with it there are the same update, wherever they lie and whatever stands behind.
 --   field-local, data-local, revision-local    the same fields of the header, number of data bytes and revision
 --   verdict-local                              the same verdict
-use Prim.Native.Nat.{ℕ, _+_, _*_, _-_, _%_, _<_, _≤_}
+use Prim.Native.Nat.{ℕ, _+_, _*_, _-_, _<_, _≤_}
 use mathlib.Core.Path.{_≡_, refl, _∙_}
-use mathlib.Core.Bool.{Bool, true, false, cond, _&&_, _||_}
+use mathlib.Core.Bool.{true, _&&_}
 use mathlib.Core.List.{List}
 use native.Mathlib.Omega.{arith}
 use lib.ListN.{length, take, drop, length-drop}
 use lib.Dec.{leb, eqb}
-use borrow.Author.Tests.{eqb-true, le-leb}
+use borrow.Author.Tests.{le-leb}
 use Rattle.laws.specs.Bools.{and-parts, and-made}
 use Rattle.laws.specs.Below.{allBelow, all-cong}
 use Rattle.laws.specs.Same.{Same, same-less, same-drop, same-take}
 use Rattle.dwords.specs.Dword.{dword, dword-same}
-use Rattle.update.specs.Fields.{version, revision, loaderVersion, dataSize, totalSize}
-use Rattle.update.specs.Sizes.{sizesOk, tableCount, entriesOf, entryCount}
-use Rattle.update.specs.Sums.{headerSum, entryOffset, entryOk, table, sumsOk}
-use Rattle.update.specs.Verdict.{headerOk, sizesFit, verdict}
-use Rattle.update.specs.SizeLaws.{Inside, inside}
+use Rattle.header.specs.Fields.{version, revision, loaderVersion, dataSize, totalSize}
+use Rattle.header.specs.Sizes.{sizesOk, tableCount, entriesOf, entryCount, entryOffset}
+use Rattle.update.specs.Sums.{headerSum, entryOk, table, sumsOk}
+use Rattle.header.specs.Checks.{headerOk, sizesFit}
+use Rattle.update.specs.Verdict.{verdict}
+use Rattle.header.specs.SizeLaws.{Inside, inside, sizes-alike}
 use Rattle.update.specs.VerdictLaws.{Judged, judged, good-made}
 use Rattle.update.specs.declared.verdict.Verdict.the-variants.{Good}
-
--- the size rule, of numbers: the count field matters only where a table fits
-sizes-alike : (d t a b : ℕ) → sizesOk d t a ≡ true → (52 + d ≤ t → a ≡ b) → (sizesOk d t b ≡ true) × (entriesOf d t a ≡ entriesOf d t b)
-unfolding sizesOk entriesOf
-sizes-alike d t a b h e =
-    let x = and-parts (eqb (d % 4) 0 && eqb (t % 1024) 0 && leb t 32768) (eqb t (48 + d) || (leb 1 a && leb a 64 && eqb t (48 + d + 20 + 12 * a))) h in
-    rw (x .0) (go (eqb t (48 + d)) (x .1))
-  where
-    go : (u : Bool) → u || (leb 1 a && leb a 64 && eqb t (48 + d + 20 + 12 * a)) ≡ true
-        → (u || (leb 1 b && leb b 64 && eqb t (48 + d + 20 + 12 * b)) ≡ true) × (cond u 0 a ≡ cond u 0 b)
-    go true w = (refl, refl)
-    go false w =
-        let y = and-parts (leb 1 a && leb a 64) (eqb t (48 + d + 20 + 12 * a)) w in
-        let f : a ≡ b = e (omega (arith, eqb-true t (48 + d + 20 + 12 * a) (y .1))) in
-        (rw f at w, f)
 
 module _ (s r : List ℕ) (t d n k : ℕ) (good : verdict s ≡ Good t d n k) (same : Same s r t) (long : t ≤ length r) where
   facts : Judged s t d n k

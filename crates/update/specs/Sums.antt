@@ -1,11 +1,10 @@
 -- The three kinds of sums, each modulo 2^32 (document 01, "The update").
 --   sumOf          signature + flags + checksum
 --   headerSum      that of the header
---   entryOffset        where entry k begins, behind d data bytes
 --   entryOk        the sum of entry k is `want`
 --   table          the table's bytes
 --   sumsOk         all sums are right
-use Prim.Native.Nat.{ℕ, _+_, _*_, _-_, _%_, _^_}
+use Prim.Native.Nat.{ℕ, _+_, _-_, _%_, _^_}
 use mathlib.Core.Bool.{Bool, _&&_}
 use mathlib.Core.List.{List}
 use lib.ListN.{take, drop}
@@ -13,18 +12,14 @@ use lib.Dec.{eqb}
 use Rattle.laws.specs.Below.{allBelow}
 use Rattle.dwords.specs.Dword.{dword}
 use Rattle.dwords.specs.Sum.{dwordSum}
-use Rattle.update.specs.Fields.{signature, flags, checksum, dataSize, totalSize}
-use Rattle.update.specs.Sizes.{entryCount}
+use Rattle.header.specs.Fields.{signature, flags, checksum, dataSize, totalSize}
+use Rattle.header.specs.Sizes.{entryCount, entryOffset}
 
 unfoldable pub sumOf : ℕ → ℕ → ℕ → ℕ
 sumOf signature flags checksum = (signature + flags + checksum) % 2 ^ 32
 
 unfoldable pub headerSum : List ℕ → ℕ
 headerSum s = sumOf (signature s) (flags s) (checksum s)
-
--- the table begins at 48 + D with 20 bytes of its own: count, checksum, 12 reserved bytes
-unfoldable pub entryOffset : ℕ → ℕ → ℕ
-entryOffset d k = 48 + d + 20 + 12 * k
 
 unfoldable pub entryOk : List ℕ → ℕ → ℕ → ℕ → Bool
 entryOk s d want k = eqb (sumOf (dword s (entryOffset d k)) (dword s (entryOffset d k + 4)) (dword s (entryOffset d k + 8))) want

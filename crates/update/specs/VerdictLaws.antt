@@ -1,53 +1,25 @@
--- Laws of the verdict: the checks as the code takes them, and what a good verdict says.
---   judging           a return at each test of checks 2 and 3, as `search` takes it
+-- Laws of the verdict: what a good one says.
 --   good-is           the good verdict, of numbers read before
 --   Judged, judged    what a good verdict says of the bytes
 --   good-made         a good verdict from the three checks
 --   good-size         how long a good update is
 --   good-blocks       it has a block
 --   verdict-blocks    the blocks that a good verdict names, as `search` takes it
-use Prim.Native.Nat.{ℕ, _+_, _<_, _≤_}
+use Prim.Native.Nat.{ℕ, _+_, _≤_}
 use mathlib.Core.Path.{_≡_, refl, sym, _∙_}
-use mathlib.Core.Bool.{Bool, true, false, and-false}
+use mathlib.Core.Bool.{Bool, true, false}
 use mathlib.Core.List.{List}
 use native.Mathlib.Omega.{arith}
 use lib.ListN.{length}
-use lib.Dec.{leb, eqb}
-use borrow.Author.Tests.{eq-eqb, ne-eqb, le-leb, lt-leb}
 use Rattle.laws.specs.Unless.{unless}
-use Rattle.update.specs.Fields.{version, loaderVersion, dataSize, totalSize}
-use Rattle.update.specs.Sizes.{sizesOk, tableCount, entryCount, blocksOf}
+use Rattle.header.specs.Fields.{dataSize, totalSize}
+use Rattle.header.specs.Sizes.{entryCount, blocksOf}
 use Rattle.update.specs.Sums.{sumsOk}
-use Rattle.update.specs.Verdict.{headerOk, sizesFit, verdict}
-use Rattle.update.specs.SizeLaws.{inside}
+use Rattle.header.specs.Checks.{headerOk, sizesFit}
+use Rattle.update.specs.Verdict.{verdict}
+use Rattle.header.specs.SizeLaws.{inside}
 use Rattle.update.specs.declared.verdict.Verdict.{Verdict}
 use Rattle.update.specs.declared.verdict.Verdict.the-variants.{Good, BadHeader, BadSum}
-
-module _ (s : List ℕ) where
-  pub header-short : length s < 48 → false ≡ headerOk s
-  unfolding headerOk
-  header-short l = rw (lt-leb 48 (length s) l)
-
-  module _ (v : ℕ) (e : v ≡ version s) where
-    pub header-version : (v ≡ 1 → ⊥) → false ≡ headerOk s
-    unfolding headerOk
-    header-version h = rw (ne-eqb (version s) 1 (λ q. h (e ∙ q)), and-false (leb 48 (length s)))
-
-    pub header-loader : (l : ℕ) → l ≡ loaderVersion s → 48 ≤ length s → v ≡ 1 → eqb l 1 ≡ headerOk s
-    unfolding headerOk
-    header-loader l f h k = rw (f, le-leb 48 (length s) h, eq-eqb (version s) 1 (sym e ∙ k))
-
-  -- r is what the size rule answered
-  module _ (d t n : ℕ) (r : Bool) (e : d ≡ dataSize s) (f : t ≡ totalSize s) (g : n ≡ tableCount s) (h : r ≡ sizesOk d t n) where
-    pub sizes-no : r ≡ false → false ≡ sizesFit s
-    unfolding sizesFit
-    sizes-no k = rw (← e, ← f, ← g, ← h, k)
-
-    pub sizes-yes : r ≡ true → leb t (length s) ≡ sizesFit s
-    unfolding sizesFit
-    sizes-yes k = rw (← e, ← f, ← g, ← h, k)
-
-pub ruleset judging = (header-short, header-version, header-loader, sizes-no, sizes-yes)
 
 -- the four numbers, read before
 pub good-is : (s : List ℕ) (t d n k : ℕ) → t ≡ totalSize s → d ≡ dataSize s → n ≡ entryCount s → k ≡ blocksOf t → Good t d n k ≡ Good (totalSize s) (dataSize s) (entryCount s) (blocksOf (totalSize s))

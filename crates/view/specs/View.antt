@@ -11,7 +11,7 @@ use mathlib.Core.Bool.{Bool}
 use mathlib.Core.List.{List, []}
 use lib.ListN.{length, take, drop}
 use lib.Dec.{ltb}
-use Rattle.update.specs.Fields.{revision, date, signature, flags, dataSize}
+use Rattle.header.specs.Fields.{revision, date, signature, flags, dataSize}
 use Rattle.update.specs.Verdict.{verdict}
 use Rattle.update.specs.declared.verdict.Verdict.{Verdict}
 use Rattle.update.specs.declared.verdict.Verdict.the-variants.{Good, BadHeader, BadSum}

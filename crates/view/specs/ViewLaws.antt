@@ -14,7 +14,7 @@ use lib.Seq.{take-nil, take-all, getD-take, length-take-le}
 use borrow.Author.Tests.{lt-ltb}
 use Rattle.laws.specs.Same.{Same, same-less, same-drop, same-take}
 use Rattle.dwords.specs.Dword.{dword}
-use Rattle.update.specs.Fields.{revision, date, signature, flags, dataSize}
+use Rattle.header.specs.Fields.{revision, date, signature, flags, dataSize}
 use Rattle.update.specs.Verdict.{verdict}
 use Rattle.update.specs.VerdictLaws.{judged, good-size}
 use Rattle.update.specs.Local.{field-local, data-local, verdict-local}

@@ -2,10 +2,10 @@
 // data. Each takes the view apart and calls a function of a plain slice. A caller that wants the numbers by value calls `summary`.
 ghost use mathlib.Core.Path.{_≡_};
 ghost use lib.ListN.{length};
-ghost use Rattle.update.specs.Fields.{revision, date, signature, flags};
+ghost use Rattle.header.specs.Fields.{revision, date, signature, flags};
 ghost use Rattle.view.specs.View.{viewed, isUpdate, dataPart, summaryOf};
 use crate::parts::Summary;
-use update::fields;
+use header::fields;
 
 pub mod parts;
 

@@ -2,7 +2,7 @@
 ghost use mathlib.Core.Path.{_≡_};
 ghost use lib.ListN.{length};
 ghost use Rattle.view.specs.View.{viewed, isUpdate, dataPart};
-use update::sizes;
+use header::sizes;
 use update::verdict;
 use update::verdict::Verdict;
 

@@ -17,19 +17,20 @@ use Rattle.laws.specs.Below.{anyBelow}
 use Rattle.laws.specs.Count.{countBelow}
 use Rattle.laws.specs.Least.{Pick, nowhere, at}
 use Rattle.laws.specs.Unless.{unless}
-use Rattle.update.specs.Fields.{revision, totalSize}
-use Rattle.update.specs.Sizes.{blocksOf}
+use Rattle.header.specs.Fields.{revision, totalSize}
+use Rattle.header.specs.Sizes.{blocksOf}
 use Rattle.update.specs.VerdictLaws.{judged, good-blocks}
-use Rattle.store.specs.Blocks.{blockCount}
+use Rattle.blocks.specs.Blocks.{blockCount}
 use Rattle.placement.specs.Held.{Held}
 use Rattle.placement.specs.Choose.{torn, choose}
 use Rattle.outcome.specs.Legal.{Legal}
-use Rattle.calls.specs.Answers.{refusal, ahOf}
-use Rattle.calls.specs.declared.answer.Answer.{Answer}
-use Rattle.calls.specs.declared.answer.Written.{Written as WrittenNumbers}
-use Rattle.calls.specs.declared.answer.Answer.the-variants.{Presence, Written, Control, Read, Refused}
-use Rattle.write.specs.Marks.{heldIn}
-use Rattle.write.specs.Write.{placed, goodAnswer, judgedAnswer, planAnswer, readBack, writeAnswer}
+use Rattle.answers.specs.Answers.{refusal, ahOf}
+use Rattle.answers.specs.declared.answer.Answer.{Answer}
+use Rattle.answers.specs.declared.answer.Written.{Written as WrittenNumbers}
+use Rattle.answers.specs.declared.answer.Answer.the-variants.{Presence, Written, Control, Read, Refused}
+use Rattle.plan.specs.Marks.{heldIn}
+use Rattle.plan.specs.Plan.{placed}
+use Rattle.write.specs.Write.{goodAnswer, judgedAnswer, planAnswer, readBack, writeAnswer}
 use Rattle.write.specs.Demand.{Passes}
 use Rattle.write.specs.Planned.{passed, plan-written}
 use Rattle.write.specs.Chosen.{chosen-none, torn-none, planned-best}

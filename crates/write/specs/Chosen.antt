@@ -12,17 +12,17 @@ use Rattle.laws.specs.Bools.{and-parts}
 use Rattle.laws.specs.Below.{anyBelow, any-at}
 use Rattle.laws.specs.Count.{count-cong}
 use Rattle.laws.specs.Least.{nowhere}
-use Rattle.update.specs.Fields.{totalSize}
-use Rattle.update.specs.Sizes.{blocksOf}
-use Rattle.store.specs.Blocks.{blockCount}
+use Rattle.header.specs.Fields.{totalSize}
+use Rattle.header.specs.Sizes.{blocksOf}
+use Rattle.blocks.specs.Blocks.{blockCount}
 use Rattle.store.specs.Scan.{storeOk}
 use Rattle.placement.specs.Held.{Held}
 use Rattle.placement.specs.Legal.{emptied}
 use Rattle.placement.specs.Choose.{torn, choose, goes as goesNumber}
 use Rattle.placement.specs.Best.{Best, choose-none, choose-some, torn-none as torn-nowhere}
 use Rattle.outcome.specs.Legal.{Legal, emptiedCount}
-use Rattle.calls.specs.declared.answer.Written.{Written as WrittenNumbers}
-use Rattle.write.specs.Marks.{heldIn}
+use Rattle.answers.specs.declared.answer.Written.{Written as WrittenNumbers}
+use Rattle.plan.specs.Marks.{heldIn}
 use Rattle.write.specs.Write.{goes}
 use Rattle.write.specs.Planned.{held-laid, Planned}
 use Rattle.update.specs.VerdictLaws.{good-blocks}

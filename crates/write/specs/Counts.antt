@@ -10,13 +10,13 @@ use native.Mathlib.Omega.{arith}
 use lib.ListN.{length, getD, length-append, List·getD-append}
 use lib.Seq.{getD-at}
 use Rattle.laws.specs.Count.{countBelow, count-cong}
-use Rattle.store.specs.Blocks.{blockCount}
+use Rattle.blocks.specs.Blocks.{blockCount}
 use Rattle.store.specs.Scan.{first, startsTo, pad, listed, storeOk, directory}
 use Rattle.store.specs.StoreLaws.{pad-at, directory-listed}
 use Rattle.store.specs.declared.directory.Directory.{Directory}
 use Rattle.placement.specs.Legal.{emptied}
 use Rattle.outcome.specs.Legal.{storedIn, emptiedCount}
-use Rattle.write.specs.Marks.{heldIn}
+use Rattle.plan.specs.Marks.{heldIn}
 use Rattle.write.specs.Join.{byNumber}
 
 unfoldable pub atEntry : List ℕ → (ℕ → Bool) → ℕ → Bool

@@ -16,21 +16,21 @@ use lib.Dec.{eqb}
 use Rattle.laws.specs.Below.{allBelow}
 use Rattle.laws.specs.Count.{countBelow}
 use Rattle.laws.specs.Same.{Same}
-use Rattle.update.specs.Fields.{revision, totalSize}
+use Rattle.header.specs.Fields.{revision, totalSize}
 use Rattle.update.specs.Verdict.{verdict}
 use Rattle.update.specs.declared.verdict.Verdict.the-variants.{Good}
-use Rattle.store.specs.Blocks.{fromBlock, blockCount}
+use Rattle.blocks.specs.Blocks.{fromBlock, blockCount}
 use Rattle.store.specs.Scan.{slotAt, sizeAt, first, storeOk}
 use Rattle.store.specs.Valid.{ValidStore}
-use Rattle.store.specs.declared.slot.Slot.the-variants.{Update}
+use Rattle.blocks.specs.declared.slot.Slot.the-variants.{Update}
 use Rattle.processors.specs.Processors.{listOk, coversOne, Keeps}
 use Rattle.outcome.specs.Legal.{Legal, emptiedCount}
 use Rattle.outcome.specs.Bytes.{outcomeBytes}
-use Rattle.calls.specs.Answers.{ahOf}
-use Rattle.calls.specs.declared.answer.Answer.{Answer}
-use Rattle.calls.specs.declared.answer.Written.{Written as WrittenNumbers}
-use Rattle.calls.specs.declared.answer.Answer.the-variants.{Written}
-use Rattle.write.specs.Marks.{outdated}
+use Rattle.answers.specs.Answers.{ahOf}
+use Rattle.answers.specs.declared.answer.Answer.{Answer}
+use Rattle.answers.specs.declared.answer.Written.{Written as WrittenNumbers}
+use Rattle.answers.specs.declared.answer.Answer.the-variants.{Written}
+use Rattle.plan.specs.Marks.{outdated}
 
 pub record Passes (old signatures platforms cand : List ℕ) : Type 0 where
   pub store : storeOk old ≡ true

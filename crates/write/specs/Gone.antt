@@ -16,29 +16,30 @@ use Rattle.laws.specs.Bools.{and-parts, and-made, no-true}
 use Rattle.laws.specs.Below.{allBelow, all-at, all-true, any-at, any-stop}
 use Rattle.laws.specs.Count.{countBelow, count-cong}
 use Rattle.laws.specs.Same.{Same, same-less}
-use Rattle.update.specs.Fields.{revision}
-use Rattle.update.specs.Sizes.{blocksOf}
+use Rattle.header.specs.Fields.{revision}
+use Rattle.header.specs.Sizes.{blocksOf}
 use Rattle.update.specs.Verdict.{verdict}
-use Rattle.coverage.specs.Shares.{Shares}
-use Rattle.coverage.specs.ShareLaws.{shares-law, covers-platform}
+use Rattle.sharing.specs.Shares.{Shares}
+use Rattle.coverage.specs.CoverLaws.{covers-platform}
+use Rattle.sharing.specs.ShareLaws.{shares-law}
 use Rattle.update.specs.Local.{revision-local}
-use Rattle.coverage.specs.Local.{Alike, covers-local}
+use Rattle.sharing.specs.Local.{Alike, covers-local}
 use Rattle.update.specs.declared.verdict.Verdict.the-variants.{Good}
-use Rattle.store.specs.Blocks.{fromBlock, blockCount}
-use Rattle.store.specs.Slot.{slotOf}
+use Rattle.blocks.specs.Blocks.{fromBlock, blockCount}
+use Rattle.blocks.specs.Slot.{slotOf}
 use Rattle.store.specs.Scan.{slotAt, sizeAt, first, storeOk, directory}
 use Rattle.store.specs.SlotLaws.{Slotted, slotted, slot-inside, update-alike, ends-inside}
 use Rattle.store.specs.LayoutLaws.{first-parts}
 use Rattle.store.specs.ValidLaws.{store-valid}
 use Rattle.store.specs.DirectoryLaws.{listing}
-use Rattle.store.specs.declared.slot.Slot.the-variants.{Update}
+use Rattle.blocks.specs.declared.slot.Slot.the-variants.{Update}
 use Rattle.processors.specs.Processors.{coversListed, coversOne}
 use Rattle.outcome.specs.Legal.{Legal, storedIn, emptiedCount}
 use Rattle.outcome.specs.Bytes.{outcomeBytes}
 use Rattle.outcome.specs.After.{kept, after, After}
 use Rattle.outcome.specs.AfterLaws.{outcome-after}
 use Rattle.outcome.specs.KeptLaws.{kept-made}
-use Rattle.write.specs.Marks.{sharesEntry, outdates, outdated}
+use Rattle.plan.specs.Marks.{sharesEntry, outdates, outdated}
 use Rattle.write.specs.Demand.{sameByte, standsAt, goneAt}
 
 -- bytes v that agree with an update u of j blocks, and with the candidate

@@ -11,11 +11,11 @@ use mathlib.Core.List.{List}
 use mathlib.Core.Logic.{⊎-elim, inl, inr}
 use native.Mathlib.Omega.{arith}
 use Rattle.laws.specs.Bools.{no-true}
-use Rattle.update.specs.Fields.{totalSize}
-use Rattle.update.specs.Sizes.{blocksOf}
-use Rattle.coverage.specs.Shares.{shares}
-use Rattle.coverage.specs.ShareLaws.{shares-law}
-use Rattle.store.specs.Blocks.{fromBlock, blockCount}
+use Rattle.header.specs.Fields.{totalSize}
+use Rattle.header.specs.Sizes.{blocksOf}
+use Rattle.sharing.specs.Shares.{shares}
+use Rattle.sharing.specs.ShareLaws.{shares-law}
+use Rattle.blocks.specs.Blocks.{fromBlock, blockCount}
 use Rattle.store.specs.Scan.{first, storeOk, directory}
 use Rattle.store.specs.Kind.{kindAt}
 use Rattle.store.specs.Valid.{Owned}
@@ -27,7 +27,7 @@ use Rattle.placement.specs.Choose.{touches, goes as goesNumber}
 use Rattle.processors.specs.Processors.{keeping, keeps-law}
 use Rattle.outcome.specs.Legal.{Legal}
 use Rattle.store.specs.KindLaws.{free-unowned}
-use Rattle.write.specs.Marks.{sharesEntry, keepsEntry, heldIn}
+use Rattle.plan.specs.Marks.{sharesEntry, keepsEntry, heldIn}
 use Rattle.write.specs.Write.{touched, goes}
 
 -- update number i begins at a block of the set e

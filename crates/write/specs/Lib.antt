@@ -1,9 +1,6 @@
 -- The write call (document 01, "The calls", 1): the definitions, demand 3, then laws.
-pub mod Marks
 pub mod Write
 pub mod Demand
-pub mod MarkLaws
-pub mod PlanLaws
 pub mod PlanCases
 pub mod Planned
 pub mod Storing

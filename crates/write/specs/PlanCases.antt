@@ -1,60 +1,34 @@
--- The order of checks 1 to 8, a return at each, as `search` takes them.
---   markings                   checks 6 to 8
+-- The order of checks 1 to 5, a return at each, as `search` takes them.
 --   good-absent, good-marked   check 5
 --   plans, good-plan           checks 1 to 4
-use Prim.Native.Nat.{ℕ, _/_}
+use Prim.Native.Nat.{ℕ}
 use mathlib.Core.Path.{_≡_, refl, _∙_}
 use mathlib.Core.Bool.{Bool, true, false}
 use mathlib.Core.List.{List}
 use lib.ListN.{length}
 use Rattle.laws.specs.Below.{anyBelow}
-use Rattle.laws.specs.Least.{Pick, nowhere, at}
 use Rattle.laws.specs.Unless.{unless}
 use Rattle.update.specs.Verdict.{verdict}
 use Rattle.update.specs.declared.verdict.Verdict.{Verdict}
 use Rattle.update.specs.declared.verdict.Verdict.the-variants.{Good, BadHeader, BadSum}
-use Rattle.store.specs.Blocks.{blockCount}
+use Rattle.blocks.specs.Blocks.{blockCount}
 use Rattle.store.specs.Scan.{directory}
 use Rattle.store.specs.StoreLaws.{directory-ok}
 use Rattle.store.specs.declared.directory.Directory.{Directory}
-use Rattle.placement.specs.Held.{Held}
-use Rattle.placement.specs.Agree.{Agree, choose-same, shared-same, torn-same}
-use Rattle.placement.specs.Choose.{torn, choose}
-use Rattle.placement.specs.Marks.{held, marksOf, bothAt, torn-both}
+use Rattle.placement.specs.Agree.{choose-same, torn-same}
+use Rattle.plan.specs.PlanLaws.{placed-same}
+use Rattle.placement.specs.Choose.{choose}
+use Rattle.placement.specs.Marks.{held, marksOf}
 use Rattle.laws.specs.Arrays.{markAt}
 use Rattle.placement.specs.declared.Marked.{Marked}
 use Rattle.processors.specs.Processors.{listOk}
-use Rattle.calls.specs.Answers.{refusal}
-use Rattle.calls.specs.declared.answer.Answer.{Answer}
+use Rattle.answers.specs.Answers.{refusal}
+use Rattle.answers.specs.declared.answer.Answer.{Answer}
 use Rattle.processors.specs.Covered.{Covered, one-is}
-use Rattle.write.specs.Marks.{heldIn, outdated}
-use Rattle.write.specs.MarkLaws.{Marks, held-same}
-use Rattle.write.specs.Write.{placed, markedAnswer, goodAnswer, judgedAnswer, planAnswer}
-
-placed-same : (g h : Held) (p : Pick) → Agree g h → placed g p ≡ placed h p
-unfolding placed
-placed-same g h nowhere a = refl
-placed-same g h (at s c) a = rw (shared-same g h a)
-
--- checks 6 to 8: o is what the test of the revisions answered, t that of the marks
-module _ (old cand : List ℕ) (m : Marked) (k : ℕ) (z : Answer) (o : Bool) (f : o ≡ outdated old cand) where
-  pub marked-outdated : o ≡ true → z ≡ refusal 0x98 0 → z ≡ markedAnswer old cand (held m) k
-  unfolding unless
-  marked-outdated h q = rw (← f, h) q
-
-  module _ (newer : o ≡ false) (t : Bool) (g : t ≡ anyBelow (m .count) (bothAt (m .shares) (m .keeps))) where
-    torn-is : t ≡ anyBelow (held m .count) (torn (held m))
-    torn-is = torn-both m t g
-
-    pub marked-torn : t ≡ true → z ≡ refusal 0x93 4 → z ≡ markedAnswer old cand (held m) k
-    unfolding unless
-    marked-torn h q = rw (← f, newer, ← torn-is, h) q
-
-    pub marked-placed : t ≡ false → z ≡ placed (held m) (choose (length old / 2048) k (held m)) → z ≡ markedAnswer old cand (held m) k
-    unfolding unless blockCount
-    marked-placed h q = rw (← f, newer, ← torn-is, h) q
-
-pub ruleset markings = (marked-outdated, marked-torn, marked-placed)
+use Rattle.plan.specs.Marks.{heldIn}
+use Rattle.plan.specs.MarkLaws.{Marks, held-same}
+use Rattle.plan.specs.Plan.{markedAnswer}
+use Rattle.write.specs.Write.{goodAnswer, judgedAnswer, planAnswer}
 
 -- check 5: r is what the test of the candidate's marks answered
 module _ (old signatures platforms cand : List ℕ) (k : ℕ) (marks : List Bool) (z : Answer) (r : Bool) (right : Covered signatures platforms cand marks)

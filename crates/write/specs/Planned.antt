@@ -14,25 +14,26 @@ use Rattle.laws.specs.Below.{anyBelow}
 use Rattle.laws.specs.Count.{countBelow}
 use Rattle.laws.specs.Least.{Pick, nowhere, at}
 use Rattle.laws.specs.Unless.{unless}
-use Rattle.update.specs.Fields.{totalSize}
-use Rattle.update.specs.Sizes.{blocksOf}
+use Rattle.header.specs.Fields.{totalSize}
+use Rattle.header.specs.Sizes.{blocksOf}
 use Rattle.update.specs.Verdict.{verdict}
 use Rattle.update.specs.VerdictLaws.{judged, good-size, good-blocks}
 use Rattle.update.specs.declared.verdict.Verdict.{Verdict}
 use Rattle.update.specs.declared.verdict.Verdict.the-variants.{Good, BadHeader, BadSum}
-use Rattle.store.specs.Blocks.{blockCount}
+use Rattle.blocks.specs.Blocks.{blockCount}
 use Rattle.store.specs.Scan.{storeOk, directory}
 use Rattle.store.specs.DirectoryLaws.{Listing, listing}
 use Rattle.placement.specs.Held.{Held, Laid}
 use Rattle.placement.specs.Choose.{torn, choose}
 use Rattle.placement.specs.Best.{choose-some}
 use Rattle.processors.specs.Processors.{listOk, coversOne}
-use Rattle.calls.specs.Answers.{refusal}
-use Rattle.calls.specs.declared.answer.Answer.{Answer}
-use Rattle.calls.specs.declared.answer.Written.{Written as WrittenNumbers}
-use Rattle.calls.specs.declared.answer.Answer.the-variants.{Written}
-use Rattle.write.specs.Marks.{heldIn, outdated}
-use Rattle.write.specs.Write.{placed, goodAnswer, judgedAnswer, planAnswer}
+use Rattle.answers.specs.Answers.{refusal}
+use Rattle.answers.specs.declared.answer.Answer.{Answer}
+use Rattle.answers.specs.declared.answer.Written.{Written as WrittenNumbers}
+use Rattle.answers.specs.declared.answer.Answer.the-variants.{Written}
+use Rattle.plan.specs.Marks.{heldIn, outdated}
+use Rattle.plan.specs.Plan.{placed}
+use Rattle.write.specs.Write.{goodAnswer, judgedAnswer, planAnswer}
 
 pub held-laid : (old signatures platforms cand : List ℕ) → storeOk old ≡ true → Laid (blockCount old) (heldIn old signatures platforms cand)
 unfolding heldIn

@@ -17,9 +17,9 @@ use lib.ListN.{length, getD}
 use lib.Seq.{ext-getD}
 use Rattle.laws.specs.Arrays.{Filled}
 use Rattle.laws.specs.Unless.{unless}
-use Rattle.update.specs.Fields.{totalSize}
-use Rattle.update.specs.Sizes.{blocksOf}
-use Rattle.store.specs.Blocks.{blockCount}
+use Rattle.header.specs.Fields.{totalSize}
+use Rattle.header.specs.Sizes.{blocksOf}
+use Rattle.blocks.specs.Blocks.{blockCount}
 use Rattle.store.specs.Scan.{sizeAt, first, storeOk, directory}
 use Rattle.store.specs.Valid.{Owned}
 use Rattle.store.specs.ValidLaws.{store-valid}
@@ -31,11 +31,11 @@ use Rattle.placement.specs.declared.Marked.{Marked}
 use Rattle.outcome.specs.Bytes.{inRun, clearedByte, outcomeByte, outcomeBytes}
 use Rattle.outcome.specs.ByteLaws.{emptied-same, at-run, outcome-length, getD-tabulate}
 use Rattle.outcome.specs.Marks.{marked, Entries, entries-of, marked-at}
-use Rattle.calls.specs.declared.answer.Answer.{Answer}
-use Rattle.calls.specs.declared.answer.Written.{Written as WrittenNumbers}
-use Rattle.calls.specs.declared.answer.Answer.the-variants.{Written}
-use Rattle.write.specs.Marks.{sharesEntry}
-use Rattle.write.specs.MarkLaws.{Shared, Marks}
+use Rattle.answers.specs.declared.answer.Answer.{Answer}
+use Rattle.answers.specs.declared.answer.Written.{Written as WrittenNumbers}
+use Rattle.answers.specs.declared.answer.Answer.the-variants.{Written}
+use Rattle.plan.specs.Marks.{sharesEntry}
+use Rattle.plan.specs.MarkLaws.{Shared, Marks}
 use Rattle.write.specs.Write.{touched, goes, goodAnswer, planAnswer}
 use Rattle.write.specs.Planned.{plan-written}
 

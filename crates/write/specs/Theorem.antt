@@ -5,15 +5,15 @@ use Prim.Native.Nat.{ℕ}
 use mathlib.Core.Path.{_≡_, refl, _∙_}
 use mathlib.Core.List.{List}
 use Rattle.laws.specs.Bools.{no-true}
-use Rattle.update.specs.Fields.{totalSize}
-use Rattle.update.specs.Sizes.{blocksOf}
+use Rattle.header.specs.Fields.{totalSize}
+use Rattle.header.specs.Sizes.{blocksOf}
 use Rattle.store.specs.ValidLaws.{valid-law}
 use Rattle.outcome.specs.Bytes.{outcomeBytes}
 use Rattle.outcome.specs.After.{after}
 use Rattle.outcome.specs.AfterLaws.{outcome-after}
 use Rattle.outcome.specs.KeptLaws.{kept-made}
-use Rattle.calls.specs.declared.answer.Answer.{Answer}
-use Rattle.calls.specs.declared.answer.Written.{Written as WrittenNumbers}
+use Rattle.answers.specs.declared.answer.Answer.{Answer}
+use Rattle.answers.specs.declared.answer.Written.{Written as WrittenNumbers}
 use Rattle.write.specs.Write.{goes, bytesAfter, writeAnswer, writeBytes}
 use Rattle.write.specs.Demand.{Passes, Accepted, Demand3}
 use Rattle.write.specs.Planned.{Planned, plan-written}

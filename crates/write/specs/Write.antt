@@ -1,7 +1,4 @@
 -- What the write answers, and the bytes that it leaves (document 01, "The calls", 1): each code exactly when its rule says, in the order 1 to 9.
---   written         the answer with a start block and an emptied count
---   placed          check 8 of the choice of a run
---   markedAnswer    checks 6 to 8, by the stored updates' marks
 --   goodAnswer      checks 5 to 8 of a candidate that passes checks 2 to 4
 --   judgedAnswer    checks 2 to 8
 --   planAnswer      checks 1 to 8: a refusal, or the start and the emptied count
@@ -12,44 +9,25 @@
 --   bytesAfter      the store after an answer
 --   writeBytes      the store afterwards: the outcome's bytes, or the old ones on a refusal
 use Prim.Native.Nat.{ℕ, _+_}
-use mathlib.Core.Bool.{Bool, not, _&&_, _||_}
+use mathlib.Core.Bool.{Bool, _&&_, _||_}
 use mathlib.Core.List.{List}
 use lib.Dec.{ltb, eqb}
-use Rattle.laws.specs.Below.{anyBelow}
-use Rattle.laws.specs.Count.{countBelow}
-use Rattle.laws.specs.Least.{Pick, nowhere, at}
 use Rattle.laws.specs.Unless.{unless}
-use Rattle.update.specs.Fields.{revision, totalSize}
-use Rattle.update.specs.Sizes.{blocksOf}
+use Rattle.header.specs.Fields.{revision, totalSize}
+use Rattle.header.specs.Sizes.{blocksOf}
 use Rattle.update.specs.Verdict.{verdict}
-use Rattle.coverage.specs.Shares.{shares}
+use Rattle.sharing.specs.Shares.{shares}
 use Rattle.update.specs.declared.verdict.Verdict.{Verdict}
 use Rattle.update.specs.declared.verdict.Verdict.the-variants.{Good, BadHeader, BadSum}
-use Rattle.store.specs.Blocks.{fromBlock, blockCount}
+use Rattle.blocks.specs.Blocks.{fromBlock}
 use Rattle.store.specs.Scan.{sizeAt, storeOk}
-use Rattle.placement.specs.Held.{Held}
-use Rattle.placement.specs.Choose.{torn, choose}
 use Rattle.processors.specs.Processors.{listOk, coversOne}
 use Rattle.outcome.specs.Bytes.{outcomeBytes}
-use Rattle.calls.specs.Answers.{refusal}
-use Rattle.calls.specs.declared.answer.Answer.{Answer}
-use Rattle.calls.specs.declared.answer.Answer.the-variants.{Presence, Written, Control, Read, Refused}
-use Rattle.write.specs.Marks.{heldIn, outdated}
-
-abbrev pub written : ℕ → ℕ → Answer
-written start emptied = Written (record { start = start; emptied = emptied })
-
--- check 8: no run (93, AL 5); else the start, and the updates that share or are touched
-unfoldable pub placed : Held → Pick → Answer
-placed h nowhere = refusal 0x93 5
-placed h (at start touched) = written start (countBelow (h .count) (h .shares) + touched)
-
--- checks 6 to 8 for a candidate of k blocks, h being the stored updates
-abbrev pub markedAnswer : List ℕ → List ℕ → Held → ℕ → Answer
-markedAnswer old cand h k =
-    unless (not (outdated old cand)) (refusal 0x98 0)
-    (unless (not (anyBelow (h .count) (torn h))) (refusal 0x93 4)
-    (placed h (choose (blockCount old) k h)))
+use Rattle.answers.specs.Answers.{refusal}
+use Rattle.answers.specs.declared.answer.Answer.{Answer}
+use Rattle.answers.specs.declared.answer.Answer.the-variants.{Presence, Written, Control, Read, Refused}
+use Rattle.plan.specs.Marks.{heldIn}
+use Rattle.plan.specs.Plan.{markedAnswer}
 
 -- checks 5 to 8
 unfoldable pub goodAnswer : List ℕ → List ℕ → List ℕ → List ℕ → ℕ → Answer

@@ -9,16 +9,16 @@ use mathlib.Core.Path.{_≡_, sym, ap, _∙_}
 use mathlib.Core.List.{List}
 use borrow.Author.Tests.{eq-eqb, ne-eqb}
 use Rattle.laws.specs.Unless.{unless}
-use Rattle.update.specs.Fields.{revision, totalSize}
+use Rattle.header.specs.Fields.{revision, totalSize}
 use Rattle.outcome.specs.Bytes.{outcomeBytes}
-use Rattle.calls.specs.Answers.{refusal}
-use Rattle.calls.specs.declared.answer.Answer.{Answer}
-use Rattle.calls.specs.declared.answer.Presence.{Presence as PresenceNumbers}
-use Rattle.calls.specs.declared.answer.Written.{Written as WrittenNumbers}
-use Rattle.calls.specs.declared.answer.Control.{Control as ControlNumbers}
-use Rattle.calls.specs.declared.answer.Read.{Read as ReadNumbers}
-use Rattle.calls.specs.declared.answer.Refused.{Refused as RefusedNumbers}
-use Rattle.calls.specs.declared.answer.Answer.the-variants.{Presence, Written, Control, Read, Refused}
+use Rattle.answers.specs.Answers.{refusal}
+use Rattle.answers.specs.declared.answer.Answer.{Answer}
+use Rattle.answers.specs.declared.answer.Presence.{Presence as PresenceNumbers}
+use Rattle.answers.specs.declared.answer.Written.{Written as WrittenNumbers}
+use Rattle.answers.specs.declared.answer.Control.{Control as ControlNumbers}
+use Rattle.answers.specs.declared.answer.Read.{Read as ReadNumbers}
+use Rattle.answers.specs.declared.answer.Refused.{Refused as RefusedNumbers}
+use Rattle.answers.specs.declared.answer.Answer.the-variants.{Presence, Written, Control, Read, Refused}
 use Rattle.write.specs.Write.{goes, goodAnswer, planAnswer, readBack, writeAnswer, bytesAfter, writeBytes}
 use Rattle.write.specs.Demand.{Passes, Demand3}
 use Rattle.write.specs.Theorem.{demanded}

@@ -1,7 +1,7 @@
 // Sub-function 1, write.
 ghost use mathlib.Core.Path.{_≡_};
 ghost use mathlib.Core.Bool.{true};
-ghost use Rattle.update.specs.Fields.{revision, totalSize};
+ghost use Rattle.header.specs.Fields.{revision, totalSize};
 ghost use Rattle.store.specs.Scan.{directory};
 ghost use mathlib.Core.List.{[]};
 ghost use Rattle.placement.specs.Marks.{marksOf};
@@ -10,15 +10,14 @@ ghost use Rattle.outcome.specs.Bytes.{outcomeBytes};
 ghost use Rattle.write.specs.Write.{goes, goodAnswer, planAnswer, readBack, writeAnswer, bytesAfter, writeBytes};
 ghost use Rattle.write.specs.Demand.{Passes, Demand3};
 ghost use Rattle.write.specs.Storing.{Storing, Storable};
-use crate::marks;
-use crate::plan;
-use calls::answer;
-use calls::answer::Answer;
+use answers::answer;
+use answers::answer::Answer;
+use header::fields;
+use header::sizes;
 use outcome::bytes;
+use plan::marks;
 use store::directory;
 use store::directory::Directory;
-use update::fields;
-use update::sizes;
 use update::verdict::Verdict;
 
 // Empties all sharing updates, wherever they lie, and all that the run touches, and puts the candidate at the start.

@@ -1,7 +1,7 @@
 -- `board::update_store_call` meets its contract: the reply of the call, laid out.
 use mathlib.Core.Path.{ap, _∙_}
 use borrow.Author.Needs.{needs}
-use Rattle.calls.specs.declared.answer.Reply.{Reply}
+use Rattle.answers.specs.declared.answer.Reply.{Reply}
 use Rattle.board.specs.Words.{axOf, callWords}
 use Rattle.board.proofs.update_store_call.Statement.{statement}
 use Rattle.board.proofs.update_store_call.Tie as tie

@@ -1,8 +1,8 @@
--- `view::date` meets its contract, by that of `update::fields::date`.
+-- `view::date` meets its contract, by that of `header::fields::date`.
 use mir.Syntax.{w32}
-use Rattle.update.specs.Fields.{date as field}
-use Rattle.update.proofs.fields.date.Symbol as callee
-use Rattle.update.proofs.fields.date.Met as callee-thm
+use Rattle.header.specs.Fields.{date as field}
+use Rattle.header.proofs.fields.date.Symbol as callee
+use Rattle.header.proofs.fields.date.Met as callee-thm
 use Rattle.view.proofs.Apart.{number-spec}
 use Rattle.view.proofs.date.Key.{name}
 use Rattle.view.proofs.date.Statement.{statement}
@@ -10,4 +10,4 @@ use Rattle.view.proofs.date.Code as code
 
 pub date-spec : {M : Type 1} → statement M
 unfolding code.routine
-date-spec 𝓤 H 𝓜 𝓖 𝓡 = number-spec w32 field 𝓤 H 𝓜 𝓖 𝓡 code.env name callee.name callee.routine (code.unfolded 𝓤 H 𝓜 𝓡) code.calls-update·fields·date (callee-thm.met 𝓤 H 𝓜 𝓖 𝓡)
+date-spec 𝓤 H 𝓜 𝓖 𝓡 = number-spec w32 field 𝓤 H 𝓜 𝓖 𝓡 code.env name callee.name callee.routine (code.unfolded 𝓤 H 𝓜 𝓡) code.calls-header·fields·date (callee-thm.met 𝓤 H 𝓜 𝓖 𝓡)

@@ -1,8 +1,8 @@
--- `view::flags` meets its contract, by that of `update::fields::flags`.
+-- `view::flags` meets its contract, by that of `header::fields::flags`.
 use mir.Syntax.{w32}
-use Rattle.update.specs.Fields.{flags as field}
-use Rattle.update.proofs.fields.flags.Symbol as callee
-use Rattle.update.proofs.fields.flags.Met as callee-thm
+use Rattle.header.specs.Fields.{flags as field}
+use Rattle.header.proofs.fields.flags.Symbol as callee
+use Rattle.header.proofs.fields.flags.Met as callee-thm
 use Rattle.view.proofs.Apart.{number-spec}
 use Rattle.view.proofs.flags.Key.{name}
 use Rattle.view.proofs.flags.Statement.{statement}
@@ -10,4 +10,4 @@ use Rattle.view.proofs.flags.Code as code
 
 pub flags-spec : {M : Type 1} → statement M
 unfolding code.routine
-flags-spec 𝓤 H 𝓜 𝓖 𝓡 = number-spec w32 field 𝓤 H 𝓜 𝓖 𝓡 code.env name callee.name callee.routine (code.unfolded 𝓤 H 𝓜 𝓡) code.calls-update·fields·flags (callee-thm.met 𝓤 H 𝓜 𝓖 𝓡)
+flags-spec 𝓤 H 𝓜 𝓖 𝓡 = number-spec w32 field 𝓤 H 𝓜 𝓖 𝓡 code.env name callee.name callee.routine (code.unfolded 𝓤 H 𝓜 𝓡) code.calls-header·fields·flags (callee-thm.met 𝓤 H 𝓜 𝓖 𝓡)

@@ -1,8 +1,8 @@
--- `view::revision` meets its contract, by that of `update::fields::revision`.
+-- `view::revision` meets its contract, by that of `header::fields::revision`.
 use mir.Syntax.{w32}
-use Rattle.update.specs.Fields.{revision as field}
-use Rattle.update.proofs.fields.revision.Symbol as callee
-use Rattle.update.proofs.fields.revision.Met as callee-thm
+use Rattle.header.specs.Fields.{revision as field}
+use Rattle.header.proofs.fields.revision.Symbol as callee
+use Rattle.header.proofs.fields.revision.Met as callee-thm
 use Rattle.view.proofs.Apart.{number-spec}
 use Rattle.view.proofs.revision.Key.{name}
 use Rattle.view.proofs.revision.Statement.{statement}
@@ -10,4 +10,4 @@ use Rattle.view.proofs.revision.Code as code
 
 pub revision-spec : {M : Type 1} → statement M
 unfolding code.routine
-revision-spec 𝓤 H 𝓜 𝓖 𝓡 = number-spec w32 field 𝓤 H 𝓜 𝓖 𝓡 code.env name callee.name callee.routine (code.unfolded 𝓤 H 𝓜 𝓡) code.calls-update·fields·revision (callee-thm.met 𝓤 H 𝓜 𝓖 𝓡)
+revision-spec 𝓤 H 𝓜 𝓖 𝓡 = number-spec w32 field 𝓤 H 𝓜 𝓖 𝓡 code.env name callee.name callee.routine (code.unfolded 𝓤 H 𝓜 𝓡) code.calls-header·fields·revision (callee-thm.met 𝓤 H 𝓜 𝓖 𝓡)

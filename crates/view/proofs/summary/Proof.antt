@@ -28,7 +28,7 @@ use denote.Steps.{peeks, nothing}
 use denote.Struct.Laws as LL
 use denote.Triple.Statement.{Contract, Triple}
 use denote.Triple.Table.{cited}
-use Rattle.update.specs.Fields.{revision, date, signature, flags}
+use Rattle.header.specs.Fields.{revision, date, signature, flags}
 use Rattle.view.specs.View.{viewed, isUpdate, dataPart, summaryOf}
 use Rattle.view.specs.declared.UpdateView.{UpdateView}
 use Rattle.view.specs.declared.parts.Summary.{Summary}

@@ -1,6 +1,6 @@
 -- `report::catalogue::catalogue` meets its contract: the text, given.
 use borrow.Author.Needs.{needs}
-use Rattle.report.specs.Texts.{text-short}
+use Rattle.text.specs.Texts.{text-short}
 use Rattle.report.proofs.catalogue.catalogue.Statement.{statement}
 use Rattle.report.proofs.catalogue.catalogue.Tie as tie
 

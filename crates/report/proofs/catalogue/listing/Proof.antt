@@ -5,7 +5,7 @@ use borrow.Author.Needs.{needs}
 use Rattle.store.specs.StoreLaws.{directory-few}
 use Rattle.report.specs.Catalogue.{linesTo, freeTo}
 use Rattle.report.specs.CatalogueLaws.{kind-is, lines-none, lines-more, free-none, free-more, text-good}
-use Rattle.report.specs.Texts.{Added}
+use Rattle.text.specs.Texts.{Added}
 use Rattle.report.proofs.catalogue.listing.Statement.{statement}
 use Rattle.report.proofs.catalogue.listing.Tie as tie
 

@@ -2,7 +2,7 @@
 use borrow.Author.Needs.{needs}
 use native.Mathlib.Omega.{arith}
 use Rattle.report.specs.Catalogue.{lineOf}
-use Rattle.report.specs.Lists.{joined}
+use Rattle.text.specs.Lists.{joined}
 use Rattle.report.proofs.lines.line.Statement.{statement}
 use Rattle.report.proofs.lines.line.Tie as tie
 

@@ -1,6 +1,6 @@
 -- `report::lines::number` meets its contract, by those of its calls.
 use borrow.Author.Needs.{needs}
-use Rattle.report.specs.Texts.{added-both}
+use Rattle.text.specs.Texts.{added-both}
 use Rattle.report.proofs.lines.number.Statement.{statement}
 use Rattle.report.proofs.lines.number.Tie as tie
 

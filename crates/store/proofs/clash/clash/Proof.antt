@@ -5,7 +5,7 @@ use mathlib.Core.Path.{_≡_}
 use mathlib.Core.Bool.{false}
 use Prim.Native.Nat.{_≤_, _-_, _+_}
 use Rattle.laws.specs.Below.{anyBelow, any-none}
-use Rattle.update.specs.Fields.{dataSize}
+use Rattle.header.specs.Fields.{dataSize}
 use Rattle.coverage.specs.Covers.{pairCount}
 use Rattle.store.specs.Scan.{clashAt, clashRow}
 use Rattle.store.specs.ClashLaws.{Kept, kept-none, more-data, more-pairs, held-data, held-pairs, clash-more, clash-stop, row-more, clash-done, clash-few}

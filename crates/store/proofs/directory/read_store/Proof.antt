@@ -3,7 +3,7 @@ use mathlib.Core.Path.{_∙_, sym}
 use Prim.Native.Nat.{_/_, _≤_}
 use native.Mathlib.Omega.{arith}
 use lib.ListN.{length}
-use Rattle.store.specs.Blocks.{length-few}
+use Rattle.blocks.specs.Blocks.{length-few}
 use Rattle.store.specs.StoreLaws.{scanned-few, store-bad, store-clash, store-good, store-length}
 use borrow.Author.Needs.{needs}
 use Rattle.store.proofs.directory.read_store.Statement.{statement}

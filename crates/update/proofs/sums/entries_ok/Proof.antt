@@ -5,7 +5,8 @@ use mathlib.Core.Bool.{true}
 use Prim.Native.Nat.{_≤_, _-_}
 use Rattle.laws.specs.Below.{allBelow}
 use Rattle.laws.specs.Loops.{each}
-use Rattle.update.specs.Sums.{entryOffset, entryOk}
+use Rattle.header.specs.Sizes.{entryOffset}
+use Rattle.update.specs.Sums.{entryOk}
 use Rattle.update.proofs.sums.entries_ok.Statement.{statement}
 use Rattle.update.proofs.sums.entries_ok.Tie as tie
 

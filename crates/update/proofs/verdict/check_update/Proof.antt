@@ -2,7 +2,7 @@
 use borrow.Author.Needs.{needs}
 use Rattle.laws.specs.Unless.{checks}
 use Rattle.update.specs.Verdict.{verdict}
-use Rattle.update.specs.SizeLaws.{inside-of, entry-count-is}
+use Rattle.header.specs.SizeLaws.{inside-of, entry-count-is}
 use Rattle.update.specs.VerdictLaws.{good-is}
 use Rattle.update.proofs.verdict.check_update.Statement.{statement}
 use Rattle.update.proofs.verdict.check_update.Tie as tie

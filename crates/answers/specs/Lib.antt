@@ -1,0 +1,3 @@
+-- The answers (document 01, "Codes"), and control, which looks at no store.
+pub mod Answers
+pub mod Control

@@ -1,0 +1,3 @@
+// The answers of the update calls, and control, which needs nothing else.
+pub mod answer;
+pub mod control;

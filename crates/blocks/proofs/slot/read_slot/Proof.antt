@@ -1,0 +1,23 @@
+-- `blocks::slot::read_slot` meets its contract, by cases of the verdict.
+use borrow.Author.Needs.{needs}
+use Rattle.blocks.specs.Slot.{slotOf, slotting}
+use Rattle.update.specs.VerdictLaws.{verdict-blocks}
+use Rattle.blocks.proofs.slot.read_slot.Statement.{statement}
+use Rattle.blocks.proofs.slot.read_slot.Tie as tie
+
+pub read-slot-spec : {M : Type 1} → statement M
+unfolding slotOf
+read-slot-spec =
+    tie.close
+    (tie.spec
+    (search needs)
+    (λ c. search slotting)
+    (search needs)
+    (search needs)
+    (λ c κs. search verdict-blocks)
+    (search needs)
+    (search needs)
+    (λ c. search slotting)
+    (λ c. search slotting)
+    (λ c. search slotting)
+    (λ c. search slotting))

@@ -1,0 +1,3 @@
+-- Blocks, and what stands at one (document 01, "The store").
+pub mod Blocks
+pub mod Slot

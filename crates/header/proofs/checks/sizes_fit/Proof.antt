@@ -1,0 +1,13 @@
+-- `header::checks::sizes_fit` meets its contract: the rule, then the length.
+use borrow.Author.Needs.{needs}
+use Rattle.header.specs.CheckLaws.{judging}
+use Rattle.header.proofs.checks.sizes_fit.Statement.{statement}
+use Rattle.header.proofs.checks.sizes_fit.Tie as tie
+
+pub sizes-fit-spec : {M : Type 1} → statement M
+sizes-fit-spec =
+    tie.close
+    (tie.spec
+    (search needs)
+    (λ c. search judging)
+    (λ c. search judging))

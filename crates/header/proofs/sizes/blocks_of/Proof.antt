@@ -1,0 +1,14 @@
+-- `header::sizes::blocks_of` meets its contract: the quotient rounded up.
+use borrow.Author.Needs.{needs}
+use Rattle.header.specs.Sizes.{blocksOf}
+use Rattle.header.proofs.sizes.blocks_of.Statement.{statement}
+use Rattle.header.proofs.sizes.blocks_of.Tie as tie
+
+pub blocks-of-spec : {M : Type 1} → statement M
+unfolding blocksOf
+blocks-of-spec =
+    tie.close
+    (tie.spec
+    (search needs)
+    (search needs)
+    (λ c. search needs))

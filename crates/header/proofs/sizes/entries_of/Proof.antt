@@ -1,0 +1,15 @@
+-- `header::sizes::entries_of` meets its contract: one branch.
+use borrow.Author.Needs.{needs}
+use Rattle.laws.specs.Tests.{cases}
+use Rattle.header.specs.Sizes.{entriesOf}
+use Rattle.header.proofs.sizes.entries_of.Statement.{statement}
+use Rattle.header.proofs.sizes.entries_of.Tie as tie
+
+pub entries-of-spec : {M : Type 1} → statement M
+unfolding entriesOf
+entries-of-spec =
+    tie.close
+    (tie.spec
+    (search needs)
+    (λ c. search cases)
+    (λ c. search cases))

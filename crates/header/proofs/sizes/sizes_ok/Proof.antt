@@ -1,0 +1,24 @@
+-- `header::sizes::sizes_ok` meets its contract: a return at each test of the rule.
+use borrow.Author.Needs.{needs}
+use Rattle.laws.specs.Tests.{cases}
+use Rattle.header.specs.Sizes.{sizesOk}
+use Rattle.header.proofs.sizes.sizes_ok.Statement.{statement}
+use Rattle.header.proofs.sizes.sizes_ok.Tie as tie
+
+pub sizes-ok-spec : {M : Type 1} → statement M
+unfolding sizesOk
+sizes-ok-spec =
+    tie.close
+    (tie.spec
+    (λ c. search cases)
+    (λ c. search cases)
+    (λ c. search cases)
+    (search needs)
+    (λ c. search cases)
+    (λ c. search cases)
+    (λ c. search cases)
+    (search needs)
+    (search needs)
+    (search needs)
+    (search needs)
+    (λ c. search cases))

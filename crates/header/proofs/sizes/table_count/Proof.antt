@@ -1,0 +1,14 @@
+-- `header::sizes::table_count` meets its contract, by that of `dword`.
+use borrow.Author.Needs.{needs}
+use Rattle.header.specs.Sizes.{tableCount}
+use Rattle.header.proofs.sizes.table_count.Statement.{statement}
+use Rattle.header.proofs.sizes.table_count.Tie as tie
+
+pub table-count-spec : {M : Type 1} → statement M
+unfolding tableCount
+table-count-spec =
+    tie.close
+    (tie.spec
+    (search needs)
+    (search needs)
+    (λ c. cc))

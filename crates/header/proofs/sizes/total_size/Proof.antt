@@ -1,0 +1,15 @@
+-- `header::sizes::total_size` meets its contract, by those of its calls.
+use borrow.Author.Needs.{needs}
+use Rattle.header.specs.Fields.{totalSize}
+use Rattle.header.proofs.sizes.total_size.Statement.{statement}
+use Rattle.header.proofs.sizes.total_size.Tie as tie
+
+pub total-size-spec : {M : Type 1} → statement M
+unfolding totalSize
+total-size-spec =
+    tie.close
+    (tie.spec
+    (search needs)
+    (search needs)
+    (search needs)
+    (λ c. cc))

@@ -1,0 +1,62 @@
+-- `plan::marks::mark` meets its contract. The loop's invariant: the marks of the updates passed are right.
+use mathlib.Core.Path.{refl}
+use mathlib.Core.Bool.{false}
+use Prim.Native.Nat.{_≤_, _-_}
+use native.Mathlib.Omega.{arith}
+use borrow.Author.Needs.{needs}
+use Rattle.laws.specs.Arrays.{Filled, filled-none, filled-more}
+use Rattle.store.specs.StoreLaws.{directory-few}
+use Rattle.plan.specs.Marks.{sharesEntry, keepsEntry}
+use Rattle.plan.specs.MarkLaws.{shares-is, keeps-is, marks-made}
+use Rattle.plan.proofs.marks.mark.Statement.{statement}
+use Rattle.plan.proofs.marks.mark.Tie as tie
+
+abbrev Inv-loop : tie.InvT-loop
+Inv-loop store signatures platforms marks candidate d «data» pairs shared₀ keeps₀ i₀ shared keeps i =
+    (i ≤ d .count) × (d .count ≤ 32) × Filled false 32 (sharesEntry store candidate) i shared × Filled false 32 (keepsEntry store signatures platforms candidate) i keeps
+
+abbrev μ-loop : tie.MeasureT-loop
+μ-loop store signatures platforms marks candidate d «data» pairs shared₀ keeps₀ i₀ shared keeps i = d .count - i
+
+loop-holds : tie.Need-loop-holds Inv-loop μ-loop
+loop-holds c = (omega arith, directory-few _ _ (c .before .before .before .before .before .before .pre .0), filled-none _ _ _ _ refl, filled-none _ _ _ _ refl)
+
+loop-again : tie.Need-loop-again Inv-loop μ-loop
+loop-again c =
+    let part = c .before .before .before .before .from-start .ensures in
+    let at = c .before .before .before .before .before .before .before in
+    let pre = at .before .before .before .before .before .before .before .pre in
+    let inv = at .loop .inv in (
+      omega arith,
+      inv .1,
+      filled-more _ _ _ _ _ _ (inv .2) (omega arith) (shares-is _ _ _ _ _ _ (pre .0) part (c .before .shares-with .ensures)),
+      filled-more _ _ _ _ _ _ (inv .3) (omega arith) (keeps-is _ _ _ _ _ _ (pre .0) part _ _ _ (pre .1 .1) (c .keeping .ensures)),
+    )
+
+returns : tie.Need-returns Inv-loop μ-loop
+returns c =
+    let at = c .before .before .before in
+    let inv = at .loop .inv in
+    marks-made _ _ _ _ _ _ _ _ (at .before .before .before .before .before .before .before .pre .0) (inv .1) (inv .2) (inv .3) (omega arith) (omega arith)
+
+pub mark-spec : {M : Type 1} → statement M
+mark-spec =
+    tie.close
+    (tie.spec
+    Inv-loop
+    μ-loop
+    (search needs)
+    (search needs)
+    loop-holds
+    (λ c. search needs)
+    (λ c κs. search needs)
+    (λ c κs. search needs)
+    (λ c κs. search needs)
+    (λ c κs. search needs)
+    (λ c. search needs)
+    (λ c κs. search needs)
+    (λ c. search needs)
+    (λ c. search needs)
+    (λ c. search needs)
+    loop-again
+    returns)

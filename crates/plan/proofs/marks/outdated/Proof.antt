@@ -1,0 +1,33 @@
+-- `plan::marks::outdated` meets its contract. The loop's invariant: no update passed shares with a revision that is equal or greater.
+use mathlib.Core.Path.{_≡_}
+use mathlib.Core.Bool.{false}
+use Prim.Native.Nat.{_≤_, _-_}
+use borrow.Author.Needs.{needs}
+use Rattle.laws.specs.Below.{anyBelow}
+use Rattle.plan.specs.Marks.{outdates}
+use Rattle.plan.specs.MarkLaws.{outdating}
+use Rattle.plan.proofs.marks.outdated.Statement.{statement}
+use Rattle.plan.proofs.marks.outdated.Tie as tie
+
+abbrev Inv-loop : tie.InvT-loop
+Inv-loop store starts shares count candidate new i₀ i = (i ≤ count) × (anyBelow i (outdates store candidate) ≡ false)
+
+abbrev μ-loop : tie.MeasureT-loop
+μ-loop store starts shares count candidate new i₀ i = count - i
+
+pub outdated-spec : {M : Type 1} → statement M
+outdated-spec =
+    tie.close
+    (tie.spec
+    Inv-loop
+    μ-loop
+    (search needs)
+    (λ c. search (needs, outdating))
+    (λ c. search needs)
+    (λ c. search needs)
+    (λ c κs. search needs)
+    (λ c. search (needs, outdating))
+    (λ c. search needs)
+    (λ c. search needs)
+    (λ c. search (needs, outdating))
+    (λ c. search (needs, outdating)))

@@ -1,0 +1,13 @@
+-- `sharing::has_signature` meets its contract: one comparison.
+use borrow.Author.Needs.{needs}
+use Rattle.sharing.specs.Shares.{hasSignature}
+use Rattle.sharing.proofs.has_signature.Statement.{statement}
+use Rattle.sharing.proofs.has_signature.Tie as tie
+
+pub has-signature-spec : {M : Type 1} → statement M
+unfolding hasSignature
+has-signature-spec =
+    tie.close
+    (tie.spec
+    (search needs)
+    (λ c. cc))

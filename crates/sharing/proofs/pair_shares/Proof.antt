@@ -1,0 +1,15 @@
+-- `sharing::pair_shares` meets its contract: the signature, then a common platform.
+use borrow.Author.Needs.{needs}
+use Rattle.laws.specs.Tests.{cases}
+use Rattle.sharing.specs.Shares.{pairShares}
+use Rattle.sharing.proofs.pair_shares.Statement.{statement}
+use Rattle.sharing.proofs.pair_shares.Tie as tie
+
+pub pair-shares-spec : {M : Type 1} → statement M
+unfolding pairShares
+pair-shares-spec =
+    tie.close
+    (tie.spec
+    (search needs)
+    (λ c. search cases)
+    (λ c. search cases))

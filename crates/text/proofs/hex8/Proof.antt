@@ -1,0 +1,34 @@
+-- `text::hex8` meets its contract. The loop's invariant: the digits passed are added.
+use mathlib.Core.Path.{_≡_}
+use native.Mathlib.Omega.{arith}
+use borrow.Author.Needs.{needs}
+use Prim.Native.Nat.{_≤_, _-_}
+use Rattle.text.specs.Digits.{hexTo, hex8}
+use Rattle.text.specs.DigitLaws.{hex-more}
+use Rattle.text.specs.Texts.{Added, added-none, added-both}
+use Rattle.text.proofs.hex8.Statement.{statement}
+use Rattle.text.proofs.hex8.Tie as tie
+
+abbrev Inv-loop : tie.InvT-loop
+Inv-loop n r₀ i₀ r i = (i ≤ 8) × Added r₀ r (hexTo n i) i
+
+abbrev μ-loop : tie.MeasureT-loop
+μ-loop n r₀ i₀ r i = 8 - i
+
+pub hex8-spec : {M : Type 1} → statement M
+unfolding hexTo hex8
+hex8-spec =
+    tie.close
+    (tie.spec
+    Inv-loop
+    μ-loop
+    (λ c. search (needs, added-none))
+    (λ c. search needs)
+    (λ c. search needs)
+    (λ c. search needs)
+    (λ c κs. search needs)
+    (λ c κs. search needs)
+    (λ c. search needs)
+    (λ c. search needs)
+    (λ c. search (needs, added-both, hex-more))
+    (λ c. let e : c .before .loop .i ≡ 8 = omega arith in rw e at (c .before .loop .inv .1)))
