@@ -1,13 +1,11 @@
 // The board's C interface: the proved calls, and their answers laid out in 16 words.
-mod words;
-
 ghost use mathlib.Core.Path.{_≡_};
 ghost use lib.ListN.{length};
 ghost use Rattle.dispatch.specs.Call.{callReply, callStore, callDestination};
 ghost use Rattle.load.specs.Load.{loadChoice};
-ghost use Rattle.board.specs.Words.{axOf, callWords, loadAx, loadWords};
+ghost use Rattle.words.specs.Words.{axOf, callWords, loadAx, loadWords};
 
-// The four D042h calls.
+// The four D042h calls. An unknown function is answered at once.
 #[no_mangle]
 pub extern "C" fn update_store_call(
     function: u32,
@@ -28,6 +26,10 @@ pub extern "C" fn update_store_call(
     ensures stores { λ r. ⌜ now (store .exit) ≡ callStore function «sub_function» (now (store .entry)) (now (signatures .entry)) (now (platforms .entry)) (now (candidate .entry)) «read_back» ⌝ }
     ensures copies { λ r. ⌜ now (destination .exit) ≡ callDestination function «sub_function» block (now (store .entry)) (now (destination .entry)) ⌝ }
 {
+    if function != 0xD042 {
+        words::unknown_words(loading, answer);
+        return 0x8600;
+    }
     let reply = dispatch::call(
         function,
         sub_function,

@@ -1,12 +1,33 @@
 // Reads a store from standard input and writes its catalogue.
+ghost use mathlib.Core.Path.{_≡_};
+ghost use lib.ListN.{length};
+ghost use Rattle.io.specs.Counts.{Counts};
 use libc::STDIN_FILENO;
 use libc::STDOUT_FILENO;
 use text::Report;
 
-// Is there another byte? It is taken.
-fn more() -> bool {
-    let mut buf = [0u8; 1];
-    io::read_full(STDIN_FILENO, &mut buf) > 0
+// One byte more than the largest store has: more input than that makes no difference.
+fn space() -> [u8; 65537]
+    ensures { λ r. ⌜ 65537 ≡ length r ⌝ }
+{
+    [0; 65537]
+}
+
+// Reads until the buffer is full or the input ends, however it arrives, and answers how many bytes there are.
+fn read(buffer: &mut [u8]) -> usize
+    ensures { λ r. ⌜ Counts r (now (buffer .exit)) ⌝ }
+{
+    let mut chunk_space = io::buffer();
+    let chunk: &mut [u8] = &mut chunk_space;
+    let mut have: usize = 0;
+    while have < buffer.len() {
+        let n = io::count(libc::read(STDIN_FILENO, chunk), chunk);
+        if n == 0 {
+            return have;
+        }
+        have = input::add(buffer, have, &chunk[..n]);
+    }
+    have
 }
 
 // Writes the catalogue of the bytes. 1,024 bytes are enough for every text.
@@ -22,11 +43,7 @@ fn write(store: &[u8]) {
 }
 
 fn main() {
-    let mut buf = io::large_buffer();
-    let n = io::read_full(STDIN_FILENO, &mut buf);
-    if more() {
-        io::write_all(STDOUT_FILENO, b"bad store\n");
-        return;
-    }
-    write(&buf[..n]);
+    let mut buffer = space();
+    let n = read(&mut buffer);
+    write(&buffer[..n]);
 }

@@ -8,8 +8,11 @@
 --   oneIfFree          1 for an unused block, else 0
 --   freeTo             how many of the blocks below n are unused
 --   catalogueText      the whole text
+--   inputText          the text of any input
 use Prim.Native.Nat.{ℕ, zero, suc, _+_}
 use mathlib.Core.List.{List, [], _∷_, _++_}
+use lib.ListN.{length}
+use lib.Dec.{leb}
 use Rattle.laws.specs.Unless.{unless}
 use Rattle.header.specs.Fields.{revision}
 use Rattle.coverage.specs.Platforms.{platformCount, lowestPlatform}
@@ -73,3 +76,7 @@ catalogueText s =
     (blocksWord ++ (decimal (blockCount s) ++ newline)
     ++ linesTo s (blockCount s)
     ++ freeWord ++ (decimal (freeTo s (blockCount s)) ++ newline))
+
+-- "for a bad store or more than 65,536 bytes it writes `bad store` and a newline only"
+unfoldable pub inputText : List ℕ → List ℕ
+inputText all = unless (leb (length all) 65536) badText (catalogueText all)

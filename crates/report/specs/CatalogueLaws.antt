@@ -5,15 +5,20 @@
 --   lines-more       what block b adds to the lines
 --   free-more        what it adds to the count of unused blocks
 --   text-good, text-bad     the text, from what the calls gave
+--   input-listed     65,537 bytes of any input are enough for its text
 use Prim.Native.Nat.{ℕ, _+_, _*_, _/_, _<_, _≤_}
 use mathlib.Core.Path.{_≡_, refl, _∙_}
 use mathlib.Core.Bool.{true, false}
 use mathlib.Core.List.{List, [], _++_}
 use native.Mathlib.Omega.{arith}
 use native.Mathlib.Numerals.{add-one}
-use lib.ListN.{length}
+use mathlib.Core.Logic.{⊎-elim}
+use lib.ListN.{length, take}
+use lib.Seq.{take-all, length-take-le}
+use borrow.Author.Tests.{le-leb, lt-leb}
+use Rattle.laws.specs.Orders.{le-or-lt}
 use Rattle.laws.specs.Unless.{unless}
-use Rattle.blocks.specs.Blocks.{blockCount}
+use Rattle.blocks.specs.Blocks.{blockCount, lengthOk}
 use Rattle.store.specs.Scan.{storeOk, directory}
 use Rattle.store.specs.Kind.{kindAt, kindIn}
 use Rattle.store.specs.StoreLaws.{directory-ok}
@@ -21,7 +26,7 @@ use Rattle.store.specs.DirectoryLaws.{kind-law}
 use Rattle.store.specs.declared.kind.Kind.{Kind}
 use Rattle.store.specs.declared.directory.Directory.{Directory}
 use Rattle.text.specs.Digits.{decimal}
-use Rattle.report.specs.Catalogue.{newline, blocksWord, freeWord, badText, blockLine, linesTo, oneIfFree, freeTo, catalogueText}
+use Rattle.report.specs.Catalogue.{newline, blocksWord, freeWord, badText, blockLine, linesTo, oneIfFree, freeTo, catalogueText, inputText}
 use Rattle.text.specs.Texts.{Added, added-none, added-both}
 use Rattle.text.specs.declared.Text.{Text}
 
@@ -62,3 +67,15 @@ unfolding catalogueText unless
 text-good s empty word head lines foot text n b free ok e l m f g h i j k o =
     let q : b ≡ blockCount s = omega arith in
     rw (ok, o, k, j, i, h, g, f, q, e)
+
+-- more bytes than 32 blocks have are no store
+long-bad : (s : List ℕ) → length s ≡ 65537 → catalogueText s ≡ badText
+unfolding catalogueText unless storeOk lengthOk
+long-bad s e = rw e
+
+pub input-listed : (all : List ℕ) → catalogueText (take 65537 all) ≡ inputText all
+unfolding inputText unless
+input-listed all =
+    ⊎-elim (λ (h : length all ≤ 65536). rw (take-all 65537 all (omega arith), le-leb (length all) 65536 h))
+    (λ (h : 65536 < length all). rw (lt-leb (length all) 65536 h) (long-bad (take 65537 all) (length-take-le 65537 all (omega arith))))
+    (le-or-lt (length all) 65536)

@@ -1,15 +1,23 @@
--- `board::update_store_call` meets its contract: the reply of the call, laid out.
-use mathlib.Core.Path.{ap, _∙_}
+-- `board::update_store_call` meets its contract: an unknown function, then the reply of the call, each laid out.
+use mathlib.Core.Path.{refl, ap, _∙_}
 use borrow.Author.Needs.{needs}
 use Rattle.answers.specs.declared.answer.Reply.{Reply}
-use Rattle.board.specs.Words.{axOf, callWords}
+use Rattle.dispatch.specs.Call.{unknown}
+use Rattle.dispatch.specs.CallLaws.{other-function}
+use Rattle.words.specs.Words.{axOf, callWords}
 use Rattle.board.proofs.update_store_call.Statement.{statement}
 use Rattle.board.proofs.update_store_call.Tie as tie
 
 returns : tie.Need-returns
+unfolding unknown axOf
 returns c =
+    let e = other-function _ _ _ _ _ _ _ _ _ _ _ (unknown _) (c .before .before .if1 .taken) refl in
+    (ap (λ (r : Reply). axOf (r .answer)) (e .0), (c .unknown-words .ensures ∙ ap callWords (e .0), (e .1 .0, e .1 .1)))
+
+returns-2 : tie.Need-returns-2
+returns-2 c =
     let e = c .before .before .before .before .before .before .before .call .ensures in
     (c .ax .ensures ∙ ap (λ (r : Reply). axOf (r .answer)) (e .0), (c .before .call-words .ensures ∙ ap callWords (e .0), (e .1 .0, e .1 .1)))
 
 pub update-store-call-spec : {M : Type 1} → statement M
-update-store-call-spec = tie.close (tie.spec (search needs) (search needs) (search needs) (search needs) (search needs) returns)
+update-store-call-spec = tie.close (tie.spec (search needs) returns (search needs) (search needs) (search needs) (search needs) (search needs) returns-2)

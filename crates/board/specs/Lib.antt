@@ -1,3 +1,0 @@
--- The board's C interface.
-pub mod Words
-pub mod WordLaws

@@ -1,0 +1,10 @@
+-- `input::fitting` meets its contract: the number by cases.
+use native.Mathlib.Omega.{arith}
+use borrow.Author.Needs.{needs}
+use Rattle.input.specs.Input.{fitting}
+use Rattle.input.proofs.fitting.Statement.{statement}
+use Rattle.input.proofs.fitting.Tie as tie
+
+pub fitting-spec : {M : Type 1} → statement M
+unfolding fitting
+fitting-spec = tie.close (tie.spec (λ c. omega arith) (search needs) (search needs) (λ c. omega arith) (λ c. omega arith))

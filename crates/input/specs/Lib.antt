@@ -1,0 +1,2 @@
+-- Input that arrives in pieces (document 01, "The catalogue": a program reads a store from standard input).
+pub mod Input

@@ -1,0 +1,32 @@
+-- `words::load_words` meets its contract: a case each.
+use Prim.Native.Nat.{_<_}
+use native.Mathlib.Omega.{arith}
+use borrow.Author.Needs.{needs}
+use Rattle.words.specs.WordLaws.{load-wording, load-small}
+use Rattle.words.proofs.load_words.Statement.{statement}
+use Rattle.words.proofs.load_words.Tie as tie
+
+mul-offset : tie.Need-mul-offset
+mul-offset c = let k : c .before .c2 .given .0 .0 < 32 = search (load-small) in omega (arith, k)
+
+add-offset : tie.Need-add-offset
+add-offset c = let k : c .before .c2 .given .0 .0 < 32 = search (load-small) in omega (arith, k)
+
+pub load-words-spec : {M : Type 1} → statement M
+load-words-spec =
+    tie.close
+    (tie.spec
+    (search needs)
+    (search needs)
+    (search needs)
+    (search needs)
+    (search needs)
+    (search needs)
+    mul-offset
+    add-offset
+    (search needs)
+    (search needs)
+    (search needs)
+    (λ c. search load-wording)
+    (λ c. search load-wording)
+    (λ c. search load-wording))

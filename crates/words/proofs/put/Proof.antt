@@ -1,0 +1,12 @@
+-- `words::put` meets its contract: the row, with the carry that `carry` gives.
+use borrow.Author.Needs.{needs}
+use Rattle.words.specs.WordLaws.{rowOf}
+use Rattle.words.proofs.put.Statement.{statement}
+use Rattle.words.proofs.put.Tie as tie
+
+returns : tie.Need-returns
+unfolding rowOf
+returns c = rw (c .before .carry .ensures)
+
+pub put-spec : {M : Type 1} → statement M
+put-spec = tie.close (tie.spec (search needs) returns)
