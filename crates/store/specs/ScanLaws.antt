@@ -1,5 +1,7 @@
 -- What the loop over the blocks keeps, and how each kind of block takes it on.
+--   slot-read                   what stands at block b, of a part that one call gave and a slot that another read there
 --   State                       what the reading of the blocks below b has found
+--   state-named                 the same under other names
 --   state-start                 at the start
 --   state-later .. state-bad    at a later block of an update, an unused block, an update's first block, and one that is bad
 use Prim.Native.Nat.{ℕ, suc, _+_, _-_, _<_, _≤_}
@@ -13,7 +15,10 @@ use lib.Seq.{append-snoc, set-append-seam}
 use lib.Dec.{leb}
 use borrow.Author.Tests.{le-leb, lt-leb}
 use Rattle.laws.specs.Below.{allBelow, all-none, all-more}
+use Rattle.blocks.specs.Blocks.{fromBlock}
+use Rattle.blocks.specs.Slot.{slotOf}
 use Rattle.store.specs.Scan.{slotAt, nextSlot, begins, first, sound, startsTo, sizesTo, pad}
+use Rattle.blocks.specs.declared.slot.Slot.{Slot}
 use Rattle.blocks.specs.declared.slot.Slot.the-variants.{Unused, Update, Bad}
 
 replicate-more : (k m : ℕ) → k ≡ suc m → replicate {A = ℕ} k 0 ≡ 0 ∷ replicate m 0
@@ -26,6 +31,10 @@ pad-set xs n a e l =
     rw (← e, replicate-more (32 - length xs) (32 - length (xs ++ (a ∷ []))) (omega (arith, length-append xs (a ∷ []))))
     (set-append-seam xs 0 (replicate (32 - length (xs ++ (a ∷ []))) 0) a ∙ sym (append-snoc xs a _))
 
+pub slot-read : (s part : List ℕ) (b : ℕ) (r x : Slot) → part ≡ fromBlock s b → r ≡ slotOf part → r ≡ x → slotAt s b ≡ x
+unfolding slotAt
+slot-read s part b r x e f g = rw (← e, ← f) g
+
 -- what the reading of the blocks below b has found
 pub record State (s : List ℕ) (b count next : ℕ) (starts sizes : List ℕ) : Type 0 where
   pub next-is : next ≡ nextSlot s b
@@ -35,6 +44,10 @@ pub record State (s : List ℕ) (b count next : ℕ) (starts sizes : List ℕ) :
   pub starts-are : starts ≡ pad (startsTo s b)
   pub sizes-are : sizes ≡ pad (sizesTo s b)
   pub all-sound : allBelow b (sound s) ≡ true
+
+-- the same under the names that a turn gave
+pub state-named : (s : List ℕ) (b count next c n : ℕ) (starts sizes xs ys : List ℕ) → xs ≡ starts → ys ≡ sizes → c ≡ count → n ≡ next → State s b count next starts sizes → State s b c n xs ys
+state-named s b count next c n starts sizes xs ys e f g h st = rw (e, f, g, h) st
 
 module _ (s : List ℕ) where
   pub state-start : State s 0 0 0 (replicate 32 0) (replicate 32 0)

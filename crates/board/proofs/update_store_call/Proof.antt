@@ -1,6 +1,6 @@
 -- `board::update_store_call` meets its contract: an unknown function, then the reply of the call, each laid out.
 use mathlib.Core.Path.{refl, ap, _∙_}
-use borrow.Author.Needs.{needs}
+use native.Mathlib.Omega.{arith}
 use Rattle.answers.specs.declared.answer.Reply.{Reply}
 use Rattle.dispatch.specs.Call.{unknown}
 use Rattle.dispatch.specs.CallLaws.{other-function}
@@ -20,4 +20,4 @@ returns-2 c =
     (c .ax .ensures ∙ ap (λ (r : Reply). axOf (r .answer)) (e .0), (c .before .call-words .ensures ∙ ap callWords (e .0), (e .1 .0, e .1 .1)))
 
 pub update-store-call-spec : {M : Type 1} → statement M
-update-store-call-spec = tie.close (tie.spec (search needs) returns (search needs) (search needs) (search needs) (search needs) (search needs) returns-2)
+update-store-call-spec = tie.close (tie.spec (λ c κs. tt) returns (λ c κs. tt) (λ c κs. tt) (λ c κs. tt) (λ c. omega arith) (λ c. omega arith) returns-2)

@@ -6,4 +6,4 @@ use Rattle.dispatch.proofs.not_implemented.Tie as tie
 
 pub not-implemented-spec : {M : Type 1} → statement M
 unfolding unknown
-not-implemented-spec = tie.close (tie.spec (search needs) (λ c. cc))
+not-implemented-spec = tie.close (tie.spec (search needs) (λ c. rw (c .refuse .ensures)))

@@ -1,5 +1,5 @@
 -- `dwords::dword` meets its contract, by its two readers and, behind the end, by `dword-behind`.
-use borrow.Author.Needs.{needs}
+use native.Mathlib.Omega.{arith}
 use Rattle.dwords.specs.Dword.{dword-behind}
 use Rattle.dwords.proofs.dword.Statement.{statement}
 use Rattle.dwords.proofs.dword.Tie as tie
@@ -8,9 +8,9 @@ pub dword-spec : {M : Type 1} → statement M
 dword-spec =
     tie.close
     (tie.spec
-    (search needs)
-    (search needs)
-    (search needs)
-    (search needs)
-    (search needs)
-    (λ c. search dword-behind))
+    (λ c. omega arith)
+    (λ c κs. omega arith)
+    (λ c κs. omega arith)
+    (λ c. omega arith)
+    (λ c. omega arith)
+    (λ c. dword-behind (c .before .before .args .s .now) (c .before .before .args .at) (c .if1 .left)))

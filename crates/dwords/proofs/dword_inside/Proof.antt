@@ -1,29 +1,32 @@
 -- `dwords::dword_inside` meets its contract: the sum of four bytes by their weights.
-use borrow.Author.Needs.{needs}
+use native.Mathlib.Omega.{arith}
 use Rattle.dwords.specs.Dword.{dword}
 use Rattle.dwords.proofs.dword_inside.Statement.{statement}
 use Rattle.dwords.proofs.dword_inside.Tie as tie
 
-pub dword-inside-spec : {M : Type 1} → statement M
+returns : tie.Need-returns
 unfolding dword
+returns c = omega arith
+
+pub dword-inside-spec : {M : Type 1} → statement M
 dword-inside-spec =
     tie.close
     (tie.spec
-    (search needs)
-    (search needs)
-    (search needs)
-    (search needs)
-    (search needs)
-    (search needs)
-    (search needs)
-    (search needs)
-    (search needs)
-    (search needs)
-    (search needs)
-    (search needs)
-    (search needs)
-    (search needs)
-    (search needs)
-    (search needs)
-    (search needs)
-    (λ c. search needs))
+    (λ c. omega arith)
+    (λ c κs. tt)
+    (λ c. omega arith)
+    (λ c. omega arith)
+    (λ c κs. tt)
+    (λ c. omega arith)
+    (λ c. omega arith)
+    (λ c κs. tt)
+    (λ c. omega arith)
+    (λ c. omega arith)
+    (λ c κs. tt)
+    (λ c. omega arith)
+    (λ c. omega arith)
+    (λ c. omega arith)
+    (λ c. omega arith)
+    (λ c. omega arith)
+    (λ c. omega arith)
+    returns)

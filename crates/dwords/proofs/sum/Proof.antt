@@ -1,7 +1,7 @@
 -- `dwords::sum` meets its contract. The loop's invariant: what is summed so far, with the dwords that are left, is the whole sum.
 use mathlib.Core.Path.{_≡_}
 use Prim.Native.Nat.{_≤_, _<_, _-_, _^_}
-use borrow.Author.Needs.{needs}
+use native.Mathlib.Omega.{arith}
 use Rattle.dwords.specs.Sum.{dwordSum, summed, adding}
 use Rattle.dwords.proofs.sum.Statement.{statement}
 use Rattle.dwords.proofs.sum.Tie as tie
@@ -18,11 +18,11 @@ sum-spec =
     (tie.spec
     Inv-loop
     μ-loop
-    (λ c. search (needs, adding))
-    (search needs)
-    (search needs)
-    (search needs)
-    (search needs)
-    (search needs)
-    (λ c. search (needs, adding))
-    (λ c. search (needs, adding)))
+    (λ c. (omega arith, omega arith, search adding))
+    (λ c. omega arith)
+    (λ c κs. omega arith)
+    (λ c κs. tt)
+    (λ c. omega arith)
+    (λ c. omega arith)
+    (λ c. (omega arith, omega arith, search adding))
+    (λ c. search adding))

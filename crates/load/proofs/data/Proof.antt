@@ -9,4 +9,4 @@ data-spec =
     (tie.spec
     (search needs)
     (search needs)
-    (λ c. cc))
+    (λ c. rw (c .before .choose .ensures) at (c .data-of .ensures)))

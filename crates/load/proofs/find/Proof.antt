@@ -2,10 +2,12 @@
 use mathlib.Core.Path.{_≡_}
 use mathlib.Core.Bool.{false}
 use Prim.Native.Nat.{_≤_, _-_}
+use native.Mathlib.Nat.{lt-of-lt-of-le}
+use native.Mathlib.Numerals.{add-one-le}
 use borrow.Author.Needs.{needs}
 use Rattle.laws.specs.Below.{anyBelow}
 use Rattle.store.specs.StoreLaws.{directory-few}
-use Rattle.load.specs.LoadLaws.{coversEntry, finding}
+use Rattle.load.specs.LoadLaws.{coversEntry, find-more, finding}
 use Rattle.load.proofs.find.Statement.{statement}
 use Rattle.load.proofs.find.Tie as tie
 
@@ -15,6 +17,15 @@ Inv-loop store signature platform d i₀ i = (i ≤ d .count) × (d .count ≤ 3
 abbrev μ-loop : tie.MeasureT-loop
 μ-loop store signature platform d i₀ i = d .count - i
 
+loop-again : tie.Need-loop-again Inv-loop μ-loop
+loop-again c =
+    let b = c .before .before in
+    let w = b .before in
+    let l = w .before .before in
+    let pre = l .before .before .before .pre in
+    let inv = l .before .loop .inv in
+    (add-one-le (l .loop-test .taken), inv .1, find-more _ _ _ _ _ _ _ _ (pre .0) (pre .1) (w .wide .ensures .0) (b .from-block .ensures) (c .before .covers .ensures) (inv .2) (c .if1 .left))
+
 pub find-spec : {M : Type 1} → statement M
 find-spec =
     tie.close
@@ -22,7 +33,7 @@ find-spec =
     Inv-loop
     μ-loop
     (λ c. search (needs, finding, directory-few))
-    (λ c. search needs)
+    (λ c. let inv = c .before .loop .inv in lt-of-lt-of-le (c .loop-test .taken) (inv .1))
     (λ c. search needs)
     (λ c κs. search needs)
     (λ c κs. search needs)
@@ -30,5 +41,5 @@ find-spec =
     (λ c. search (needs, finding))
     (λ c. search needs)
     (λ c. search needs)
-    (λ c. search (needs, finding))
+    loop-again
     (λ c. search (needs, finding)))

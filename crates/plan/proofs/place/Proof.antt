@@ -10,11 +10,11 @@ pub place-spec : {M : Type 1} → statement M
 place-spec =
     tie.close
     (tie.spec
-    (search needs)
-    (search needs)
-    (search needs)
-    (search needs)
-    (search needs)
+    (λ c κs. omega arith)
+    (λ c. omega arith)
+    (λ c κs. tt)
+    (λ c. omega arith)
+    (λ c κs. omega arith)
     (λ c. let l : c .shared .result + c .before .before .choice .given .0 .1 .0 ≤ 64 = search (needs, place-few) in omega arith)
     (λ c. search placing)
     (λ c. search placing))

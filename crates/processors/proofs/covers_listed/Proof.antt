@@ -10,8 +10,8 @@ covers-listed-spec =
     tie.close
     (tie.spec
     (search needs)
+    (λ c. c .before .before .before .before .pre .0)
+    (λ c. c .before .before .before .before .before .pre .1)
     (search needs)
     (search needs)
-    (search needs)
-    (search needs)
-    (λ c. cc))
+    (λ c. rw (c .before .wide .ensures .0) at (c .covers-with .ensures)))

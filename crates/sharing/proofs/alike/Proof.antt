@@ -1,7 +1,7 @@
 -- `sharing::alike` meets its contract. The loop's invariant: `count` counts the pairs passed that have the signature.
-use borrow.Author.Needs.{needs}
 use mathlib.Core.Path.{_≡_}
 use Prim.Native.Nat.{_≤_, _-_}
+use native.Mathlib.Omega.{arith}
 use Rattle.laws.specs.Count.{countBelow, counting}
 use Rattle.sharing.specs.Shares.{hasSignature}
 use Rattle.sharing.proofs.alike.Statement.{statement}
@@ -19,12 +19,12 @@ alike-spec =
     (tie.spec
     Inv-loop
     μ-loop
-    (λ c. search (needs, counting))
-    (search needs)
-    (λ c κs. search needs)
-    (search needs)
-    (search needs)
-    (λ c. search (needs, counting))
-    (search needs)
-    (λ c. search (needs, counting))
-    (λ c. search (needs, counting)))
+    (λ c. (omega arith, omega arith, search counting))
+    (λ c. omega arith)
+    (λ c κs. (c .before .before .before .pre .0, omega arith))
+    (λ c. omega arith)
+    (λ c. omega arith)
+    (λ c. (omega arith, omega arith, search counting))
+    (λ c. omega arith)
+    (λ c. (omega arith, omega arith, search counting))
+    (λ c. search counting))

@@ -1,5 +1,4 @@
 -- `sharing::has_signature` meets its contract: one comparison.
-use borrow.Author.Needs.{needs}
 use Rattle.sharing.specs.Shares.{hasSignature}
 use Rattle.sharing.proofs.has_signature.Statement.{statement}
 use Rattle.sharing.proofs.has_signature.Tie as tie
@@ -9,5 +8,5 @@ unfolding hasSignature
 has-signature-spec =
     tie.close
     (tie.spec
-    (search needs)
-    (λ c. cc))
+    (λ c κs. c .before .pre)
+    (λ c. rw (c .signature-at .ensures)))

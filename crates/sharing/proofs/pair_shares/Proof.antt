@@ -1,5 +1,4 @@
 -- `sharing::pair_shares` meets its contract: the signature, then a common platform.
-use borrow.Author.Needs.{needs}
 use Rattle.laws.specs.Tests.{cases}
 use Rattle.sharing.specs.Shares.{pairShares}
 use Rattle.sharing.proofs.pair_shares.Statement.{statement}
@@ -10,6 +9,6 @@ unfolding pairShares
 pair-shares-spec =
     tie.close
     (tie.spec
-    (search needs)
+    (λ c κs. tt)
     (λ c. search cases)
     (λ c. search cases))

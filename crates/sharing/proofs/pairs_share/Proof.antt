@@ -1,13 +1,13 @@
 -- `sharing::pairs_share` meets its contract. The invariants: no pair of `a` passed shares with a pair of `b`, and pair `i` shares with none of those passed.
-use borrow.Author.Needs.{needs}
-use mathlib.Core.Path.{_≡_}
+use mathlib.Core.Path.{_≡_, refl}
 use mathlib.Core.Bool.{false}
 use Prim.Native.Nat.{_≤_, _-_}
+use native.Mathlib.Omega.{arith}
 use Rattle.laws.specs.Below.{anyBelow, rows}
-use Rattle.laws.specs.Loops.{scan}
+use Rattle.laws.specs.Loops.{nest-more, scan}
 use Rattle.coverage.specs.Covers.{pairCount}
 use Rattle.sharing.specs.Shares.{sharesAt, shares}
-use Rattle.sharing.specs.ShareLaws.{meets}
+use Rattle.sharing.specs.ShareLaws.{share-more, share-stop, meets}
 use Rattle.sharing.proofs.pairs_share.Statement.{statement}
 use Rattle.sharing.proofs.pairs_share.Tie as tie
 
@@ -23,6 +23,18 @@ Inv-scan a d m b e n found₀ i₀ found i = (i ≤ m) × (found ≡ false) × (
 abbrev μ-scan : tie.MeasureT-scan
 μ-scan a d m b e n found₀ i₀ found i = m - i
 
+loop-again : tie.Need-loop-again Inv-loop μ-loop Inv-scan μ-scan
+loop-again c =
+    let read = c .before .before .before .before .before .before in
+    (omega arith, c .before .before .before .loop .inv .1, share-more _ _ _ _ _ _ _ (read .before .signature-at .ensures) (read .platforms-at .ensures) (c .before .shares-at .ensures) (c .before .before .before .loop .inv .2) (c .if2 .left))
+
+returns-2 : tie.Need-returns-2 Inv-loop μ-loop Inv-scan μ-scan
+unfolding shares
+returns-2 c =
+    let read = c .before .before .before .before .before .before in
+    let pre = read .before .before .before .before .before .before .pre in
+    share-stop _ _ _ _ _ _ _ (read .before .signature-at .ensures) (read .platforms-at .ensures) (c .before .shares-at .ensures) _ _ _ _ (pre .0 .1) (pre .1 .1) (read .before .before .scan-test .taken) (c .before .before .loop-test .taken) (c .if2 .taken)
+
 pub pairs-share-spec : {M : Type 1} → statement M
 unfolding shares
 pairs-share-spec =
@@ -32,20 +44,20 @@ pairs-share-spec =
     μ-loop
     Inv-scan
     μ-scan
-    (λ c. search (needs, scan))
-    (λ c κs. search (needs, scan))
-    (λ c κs. search (needs, scan))
-    (λ c κs. search (needs, scan))
-    (λ c. search (needs, scan))
-    (λ c. search (needs, scan))
-    (λ c. search (needs, scan, meets))
-    (λ c. search (needs, scan))
-    (λ c κs. search (needs, scan))
-    (λ c. search (needs, scan))
-    (λ c. search (needs, scan))
-    (λ c. search (needs, meets))
-    (λ c. search (needs, scan))
-    (λ c. search (needs, scan))
-    (λ c. search (needs, scan))
-    (λ c. search (needs, scan))
-    (λ c. search (needs, meets)))
+    (λ c. (omega arith, refl, search scan))
+    (λ c κs. (c .before .before .before .before .pre .0 .0, omega arith))
+    (λ c κs. (c .before .before .before .before .before .pre .0 .0, omega arith))
+    (λ c κs. c .before .before .before .before .before .before .pre .1)
+    (λ c. omega arith)
+    (λ c. omega arith)
+    (λ c. (omega arith, c .before .before .before .before .before .scan .inv .1, search meets))
+    (λ c. (omega arith, c .before .before .before .before .before .scan .inv .1, search scan))
+    (λ c κs. (c .before .before .before .before .before .before .before .before .before .before .pre .1 .0, omega arith))
+    (λ c. omega arith)
+    (λ c. omega arith)
+    loop-again
+    (λ c. omega arith)
+    (λ c. omega arith)
+    (λ c. (omega arith, c .before .loop .inv .1, nest-more _ _ _ _ _ (c .before .before .before .before .before .before .before .before .before .before .pre .1 .1) (c .before .before .before .before .before .before .before .scan .inv .2) (c .before .loop .inv .2) (c .before .loop .inv .0) (c .loop-test .left)))
+    (λ c. search scan)
+    returns-2)

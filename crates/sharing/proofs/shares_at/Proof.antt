@@ -1,5 +1,4 @@
 -- `sharing::shares_at` meets its contract, by those of its calls.
-use borrow.Author.Needs.{needs}
 use Rattle.sharing.proofs.shares_at.Statement.{statement}
 use Rattle.sharing.proofs.shares_at.Tie as tie
 
@@ -7,7 +6,7 @@ pub shares-at-spec : {M : Type 1} → statement M
 shares-at-spec =
     tie.close
     (tie.spec
-    (search needs)
-    (search needs)
-    (search needs)
-    (λ c. cc))
+    (λ c κs. c .before .pre)
+    (λ c κs. c .before .before .pre)
+    (λ c κs. tt)
+    (λ c. rw (c .pair-shares .ensures, c .before .before .signature-at .ensures, c .before .platforms-at .ensures)))

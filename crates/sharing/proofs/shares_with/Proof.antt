@@ -1,5 +1,5 @@
 -- `sharing::shares_with` meets its contract: two headers' pairs compared at once, or all pairs.
-use borrow.Author.Needs.{needs}
+use native.Mathlib.Omega.{arith}
 use Rattle.sharing.specs.ShareLaws.{one-pair}
 use Rattle.sharing.proofs.shares_with.Statement.{statement}
 use Rattle.sharing.proofs.shares_with.Tie as tie
@@ -8,11 +8,11 @@ pub shares-with-spec : {M : Type 1} → statement M
 shares-with-spec =
     tie.close
     (tie.spec
-    (λ c κs. search needs)
-    (λ c κs. search needs)
-    (λ c κs. search needs)
-    (λ c κs. search needs)
-    (λ c κs. search needs)
-    (λ c. search (needs, one-pair))
-    (λ c. search needs)
-    (λ c. search needs))
+    (λ c κs. (c .before .before .before .before .pre .0 .0, omega arith))
+    (λ c κs. (c .before .before .before .before .before .pre .0 .0, omega arith))
+    (λ c κs. (c .before .before .before .before .before .before .pre .1 .0, omega arith))
+    (λ c κs. c .before .before .before .before .pre)
+    (λ c κs. c .before .before .before .pre)
+    (λ c. search one-pair)
+    (λ c. c .pairs-share .ensures)
+    (λ c. c .pairs-share2 .ensures))

@@ -1,5 +1,8 @@
 -- `text::byte` meets its contract: the bytes that count are the old ones and the one just written.
-use borrow.Author.Needs.{needs}
+use mathlib.Core.Path.{_≡_}
+use native.Mathlib.Omega.{arith}
+use lib.ListN.{length}
+use borrow.Author.Needs.{length-unmapped}
 use Rattle.text.specs.Lists.{take-more-set}
 use Rattle.text.proofs.byte.Statement.{statement}
 use Rattle.text.proofs.byte.Tie as tie
@@ -7,7 +10,8 @@ use Rattle.text.proofs.byte.Tie as tie
 returns : tie.Need-returns
 returns c =
     let a = c .before .args in
-    record { text = take-more-set (a .t .bytes) (a .t .len) (a .b) (search needs); long = search needs }
+    let e : length (a .t .bytes) ≡ 1024 = search length-unmapped in
+    record { text = take-more-set (a .t .bytes) (a .t .len) (a .b) (omega arith); long = omega arith }
 
 pub byte-spec : {M : Type 1} → statement M
-byte-spec = tie.close (tie.spec (search needs) (search needs) returns)
+byte-spec = tie.close (tie.spec (λ c. omega arith) (λ c. omega arith) returns)

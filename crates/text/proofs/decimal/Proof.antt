@@ -1,5 +1,5 @@
 -- `text::decimal` meets its contract: one digit or two.
-use borrow.Author.Needs.{needs}
+use native.Mathlib.Omega.{arith}
 use Rattle.text.specs.DigitLaws.{decimal-one, decimal-two}
 use Rattle.text.specs.Texts.{added-both}
 use Rattle.text.proofs.decimal.Statement.{statement}
@@ -9,14 +9,14 @@ pub decimal-spec : {M : Type 1} → statement M
 decimal-spec =
     tie.close
     (tie.spec
-    (search needs)
-    (search needs)
-    (search needs)
-    (search needs)
-    (search needs)
-    (search needs)
-    (search needs)
-    (search needs)
-    (search needs)
-    (λ c. search (needs, decimal-one))
-    (λ c. search (needs, decimal-two, added-both)))
+    (λ c. omega arith)
+    (λ c. omega arith)
+    (λ c κs. omega arith)
+    (λ c. omega arith)
+    (λ c. omega arith)
+    (λ c κs. omega arith)
+    (λ c. omega arith)
+    (λ c. omega arith)
+    (λ c κs. omega arith)
+    (λ c. record { text = rw (decimal-one _ (c .before .if1 .taken)) (c .byte .ensures .text); long = omega arith })
+    (λ c. added-both _ _ _ _ _ _ 1 1 2 (c .byte3 .ensures) (c .before .byte2 .ensures) (decimal-two _ (c .before .before .if1 .left) (c .before .before .before .pre .0)) (omega arith)))

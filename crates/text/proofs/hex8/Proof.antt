@@ -1,7 +1,6 @@
 -- `text::hex8` meets its contract. The loop's invariant: the digits passed are added.
 use mathlib.Core.Path.{_≡_}
 use native.Mathlib.Omega.{arith}
-use borrow.Author.Needs.{needs}
 use Prim.Native.Nat.{_≤_, _-_}
 use Rattle.text.specs.Digits.{hexTo, hex8}
 use Rattle.text.specs.DigitLaws.{hex-more}
@@ -22,13 +21,13 @@ hex8-spec =
     (tie.spec
     Inv-loop
     μ-loop
-    (λ c. search (needs, added-none))
-    (λ c. search needs)
-    (λ c. search needs)
-    (λ c. search needs)
-    (λ c κs. search needs)
-    (λ c κs. search needs)
-    (λ c. search needs)
-    (λ c. search needs)
-    (λ c. search (needs, added-both, hex-more))
+    (λ c. (omega arith, added-none _ _))
+    (λ c. omega arith)
+    (λ c. omega arith)
+    (λ c. omega arith)
+    (λ c κs. omega arith)
+    (λ c κs. omega arith)
+    (λ c. omega arith)
+    (λ c. omega arith)
+    (λ c. (omega arith, added-both _ _ _ _ _ _ _ _ _ (c .byte .ensures) (c .before .before .before .loop .inv .1) (hex-more _ _ _ (c .before .hex-digit .ensures)) (omega arith)))
     (λ c. let e : c .before .loop .i ≡ 8 = omega arith in rw e at (c .before .loop .inv .1)))

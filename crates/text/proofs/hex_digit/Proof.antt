@@ -1,5 +1,5 @@
 -- `text::hex_digit` meets its contract: one branch.
-use borrow.Author.Needs.{needs}
+use native.Mathlib.Omega.{arith}
 use Rattle.laws.specs.Tests.{cases}
 use Rattle.text.specs.Digits.{hexDigit}
 use Rattle.text.proofs.hex_digit.Statement.{statement}
@@ -10,9 +10,9 @@ unfolding hexDigit
 hex-digit-spec =
     tie.close
     (tie.spec
-    (search needs)
-    (search needs)
-    (search needs)
-    (search needs)
+    (λ c. omega arith)
+    (λ c. omega arith)
+    (λ c. omega arith)
+    (λ c. omega arith)
     (λ c. search cases)
     (λ c. search cases))

@@ -1,7 +1,7 @@
 -- `text::word` meets its contract. The loop's invariant: the bytes passed are added.
-use borrow.Author.Needs.{needs}
 use Prim.Native.Nat.{_≤_, _-_}
 use lib.ListN.{length, take}
+use native.Mathlib.Omega.{arith}
 use Rattle.text.specs.Lists.{take-more}
 use Rattle.text.specs.Texts.{Added, added-none, added-both, added-all}
 use Rattle.text.proofs.word.Statement.{statement}
@@ -19,10 +19,10 @@ word-spec =
     (tie.spec
     Inv-loop
     μ-loop
-    (λ c. search (needs, added-none))
-    (λ c. search needs)
-    (λ c κs. search needs)
-    (λ c. search needs)
-    (λ c. search needs)
-    (λ c. search (needs, added-both, take-more))
-    (λ c. search (needs, added-all)))
+    (λ c. (omega arith, added-none _ _))
+    (λ c. omega arith)
+    (λ c κs. omega arith)
+    (λ c. omega arith)
+    (λ c. omega arith)
+    (λ c. (omega arith, added-both _ _ _ _ _ _ _ _ _ (c .byte .ensures) (c .before .before .before .loop .inv .1) (take-more _ _ (c .before .before .loop-test .taken)) (omega arith)))
+    (λ c. added-all _ _ _ _ (c .before .loop .inv .1) (c .before .loop .inv .0) (c .loop-test .left)))

@@ -1,5 +1,5 @@
 -- `words::ax` meets its contract: a case each.
-use borrow.Author.Needs.{needs}
+use native.Mathlib.Omega.{arith}
 use Rattle.words.specs.Words.{axOf}
 use Rattle.words.proofs.ax.Statement.{statement}
 use Rattle.words.proofs.ax.Tie as tie
@@ -28,15 +28,15 @@ pub ax-spec : {M : Type 1} → statement M
 ax-spec =
     tie.close
     (tie.spec
-    (search needs)
-    (search needs)
-    (search needs)
-    (search needs)
-    (search needs)
-    (search needs)
-    (search needs)
-    (search needs)
-    (search needs)
+    (λ c. omega arith)
+    (λ c. omega arith)
+    (λ c. omega arith)
+    (λ c. omega arith)
+    (λ c. omega arith)
+    (λ c. omega arith)
+    (λ c. omega arith)
+    (λ c. omega arith)
+    (λ c. omega arith)
     returns
     returns-2
     returns-3

@@ -1,5 +1,5 @@
 -- `words::load_ax` meets its contract: a case each.
-use borrow.Author.Needs.{needs}
+use native.Mathlib.Omega.{arith}
 use Rattle.words.specs.Words.{loadAx}
 use Rattle.words.proofs.load_ax.Statement.{statement}
 use Rattle.words.proofs.load_ax.Tie as tie
@@ -20,13 +20,13 @@ pub load-ax-spec : {M : Type 1} → statement M
 load-ax-spec =
     tie.close
     (tie.spec
-    (search needs)
-    (search needs)
-    (search needs)
-    (search needs)
-    (search needs)
-    (search needs)
-    (search needs)
+    (λ c. omega arith)
+    (λ c. omega arith)
+    (λ c. omega arith)
+    (λ c. omega arith)
+    (λ c. omega arith)
+    (λ c. omega arith)
+    (λ c. omega arith)
     returns
     returns-2
     returns-3)

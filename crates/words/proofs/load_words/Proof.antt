@@ -1,7 +1,6 @@
 -- `words::load_words` meets its contract: a case each.
 use Prim.Native.Nat.{_<_}
 use native.Mathlib.Omega.{arith}
-use borrow.Author.Needs.{needs}
 use Rattle.words.specs.WordLaws.{load-wording, load-small}
 use Rattle.words.proofs.load_words.Statement.{statement}
 use Rattle.words.proofs.load_words.Tie as tie
@@ -16,17 +15,17 @@ pub load-words-spec : {M : Type 1} → statement M
 load-words-spec =
     tie.close
     (tie.spec
-    (search needs)
-    (search needs)
-    (search needs)
-    (search needs)
-    (search needs)
-    (search needs)
+    (λ c κs. tt)
+    (λ c. omega arith)
+    (λ c κs. tt)
+    (λ c. omega arith)
+    (λ c κs. tt)
+    (λ c. omega arith)
     mul-offset
     add-offset
-    (search needs)
-    (search needs)
-    (search needs)
+    (λ c κs. tt)
+    (λ c κs. tt)
+    (λ c κs. tt)
     (λ c. search load-wording)
     (λ c. search load-wording)
     (λ c. search load-wording))

@@ -1,5 +1,4 @@
 -- `coverage::covers::covers_at` meets its contract, by those of its calls.
-use borrow.Author.Needs.{needs}
 use Rattle.coverage.specs.Covers.{coversAt}
 use Rattle.coverage.proofs.covers.covers_at.Statement.{statement}
 use Rattle.coverage.proofs.covers.covers_at.Tie as tie
@@ -9,7 +8,7 @@ unfolding coversAt
 covers-at-spec =
     tie.close
     (tie.spec
-    (search needs)
-    (search needs)
-    (search needs)
-    (λ c. cc))
+    (λ c κs. c .before .pre)
+    (λ c κs. c .before .before .pre)
+    (λ c κs. tt)
+    (λ c. rw (c .pair-covers .ensures, c .before .before .signature-at .ensures, c .before .platforms-at .ensures)))

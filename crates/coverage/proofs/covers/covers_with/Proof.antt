@@ -1,8 +1,8 @@
 -- `coverage::covers::covers_with` meets its contract. The loop's invariant: no pair passed covers the processor.
-use borrow.Author.Needs.{needs}
 use mathlib.Core.Path.{_≡_}
 use mathlib.Core.Bool.{false}
 use Prim.Native.Nat.{_≤_, _-_}
+use native.Mathlib.Omega.{arith}
 use Rattle.laws.specs.Below.{anyBelow}
 use Rattle.laws.specs.Loops.{scan}
 use Rattle.coverage.specs.Covers.{coversAt, covers}
@@ -22,10 +22,10 @@ covers-with-spec =
     (tie.spec
     Inv-loop
     μ-loop
-    (λ c. search (needs, scan))
-    (λ c κs. search (needs, scan))
-    (λ c. search (needs, scan))
-    (λ c. search (needs, scan))
-    (λ c. search (needs, scan))
-    (λ c. search (needs, scan))
-    (λ c. search (needs, scan)))
+    (λ c. (omega arith, search scan))
+    (λ c κs. (c .before .before .before .pre .0, omega arith))
+    (λ c. search scan)
+    (λ c. omega arith)
+    (λ c. omega arith)
+    (λ c. (omega arith, search scan))
+    (λ c. search scan))

@@ -1,5 +1,5 @@
 -- `coverage::covers::names` meets its contract: bit p of the flags.
-use borrow.Author.Needs.{needs}
+use native.Mathlib.Omega.{arith}
 use Rattle.laws.specs.Tests.{cases}
 use Rattle.laws.specs.LowByte.{bit}
 use Rattle.coverage.specs.Covers.{names}
@@ -11,7 +11,7 @@ unfolding names bit
 names-spec =
     tie.close
     (tie.spec
-    (search needs)
-    (search needs)
+    (λ c. omega arith)
+    (λ c. omega arith)
     (λ c. search cases)
     (λ c. search cases))

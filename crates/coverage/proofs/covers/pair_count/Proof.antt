@@ -1,7 +1,6 @@
 -- `coverage::covers::pair_count` meets its contract, by the laws of pairs.
-use borrow.Author.Needs.{needs}
-use Prim.Native.Nat.{_≤_}
 use native.Mathlib.Omega.{arith}
+use Prim.Native.Nat.{_≤_}
 use Rattle.coverage.specs.PairLaws.{pairing}
 use Rattle.coverage.proofs.covers.pair_count.Statement.{statement}
 use Rattle.coverage.proofs.covers.pair_count.Tie as tie
@@ -10,12 +9,12 @@ pub pair-count-spec : {M : Type 1} → statement M
 pair-count-spec =
     tie.close
     (tie.spec
-    (search needs)
-    (search needs)
-    (search needs)
-    (search needs)
-    (search needs)
-    (search needs)
+    (λ c κs. tt)
+    (λ c κs. tt)
+    (λ c κs. tt)
+    (λ c κs. c .before .data-size .ensures)
+    (λ c κs. (c .before .before .data-size .ensures, c .before .total-size .ensures, c .table-count .ensures))
+    (λ c κs. tt)
     (λ c. let l : c .entries-of .result ≤ 64 = search pairing in omega arith)
     (λ c. search pairing)
     (λ c. search pairing)

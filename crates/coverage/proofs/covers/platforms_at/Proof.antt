@@ -1,5 +1,5 @@
 -- `coverage::covers::platforms_at` meets its contract: each pair lies inside.
-use borrow.Author.Needs.{needs}
+use native.Mathlib.Omega.{arith}
 use Rattle.coverage.specs.Covers.{platformsAt, flagsAt}
 use Rattle.coverage.specs.PairLaws.{pairing}
 use Rattle.coverage.proofs.covers.platforms_at.Statement.{statement}
@@ -12,5 +12,5 @@ platforms-at-spec =
     (tie.spec
     (λ c κs. search pairing)
     (λ c κs. search pairing)
-    (search needs)
-    (λ c. cc))
+    (λ c. omega arith)
+    (λ c. rw (c .dword-inside .ensures, c .before .flags-offset .ensures, c .before .before .before .pre .0)))

@@ -11,4 +11,4 @@ signature-at-spec =
     (tie.spec
     (λ c κs. search pairing)
     (λ c κs. search pairing)
-    (λ c. cc))
+    (λ c. rw (c .dword-inside .ensures, c .before .signature-offset .ensures, c .before .before .before .pre .0)))

@@ -1,5 +1,5 @@
 -- `coverage::covers::signature_offset` meets its contract: the header's, or that of an entry.
-use borrow.Author.Needs.{needs}
+use native.Mathlib.Omega.{arith}
 use Rattle.laws.specs.Tests.{cases}
 use Rattle.header.specs.Sizes.{entryOffset}
 use Rattle.coverage.specs.Covers.{signatureOffset}
@@ -11,11 +11,11 @@ unfolding signatureOffset entryOffset
 signature-offset-spec =
     tie.close
     (tie.spec
-    (search needs)
-    (search needs)
-    (search needs)
-    (search needs)
-    (search needs)
-    (search needs)
+    (λ c. omega arith)
+    (λ c. omega arith)
+    (λ c. omega arith)
+    (λ c. omega arith)
+    (λ c. omega arith)
+    (λ c. omega arith)
     (λ c. search cases)
     (λ c. search cases))

@@ -1,5 +1,5 @@
 -- `coverage::platforms::header_platforms` meets its contract: pair 0 is the header's.
-use borrow.Author.Needs.{needs}
+use native.Mathlib.Omega.{arith}
 use Rattle.coverage.specs.Covers.{platformsAt, flagsAt, flagsOffset}
 use Rattle.coverage.proofs.platforms.header_platforms.Statement.{statement}
 use Rattle.coverage.proofs.platforms.header_platforms.Tie as tie
@@ -9,6 +9,6 @@ unfolding platformsAt flagsAt flagsOffset
 header-platforms-spec =
     tie.close
     (tie.spec
-    (search needs)
-    (search needs)
-    (λ c. cc))
+    (λ c κs. tt)
+    (λ c. omega arith)
+    (λ c. rw (c .flags .ensures)))

@@ -1,5 +1,4 @@
 -- `coverage::platforms::platform_count` meets its contract: the ones of the flags that count.
-use borrow.Author.Needs.{needs}
 use Rattle.coverage.specs.Platforms.{ones-count}
 use Rattle.coverage.proofs.platforms.platform_count.Statement.{statement}
 use Rattle.coverage.proofs.platforms.platform_count.Tie as tie
@@ -8,5 +7,5 @@ pub platform-count-spec : {M : Type 1} → statement M
 platform-count-spec =
     tie.close
     (tie.spec
-    (search needs)
+    (λ c κs. tt)
     (λ c. search ones-count))

@@ -1,5 +1,4 @@
 -- `header::checks::header_ok` meets its contract: a return at each test.
-use borrow.Author.Needs.{needs}
 use Rattle.header.specs.CheckLaws.{judging}
 use Rattle.header.proofs.checks.header_ok.Statement.{statement}
 use Rattle.header.proofs.checks.header_ok.Tie as tie
@@ -9,7 +8,7 @@ header-ok-spec =
     tie.close
     (tie.spec
     (λ c. search judging)
-    (search needs)
+    (λ c κs. tt)
     (λ c. search judging)
-    (search needs)
+    (λ c κs. tt)
     (λ c. search judging))

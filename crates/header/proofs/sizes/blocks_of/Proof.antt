@@ -1,5 +1,5 @@
 -- `header::sizes::blocks_of` meets its contract: the quotient rounded up.
-use borrow.Author.Needs.{needs}
+use native.Mathlib.Omega.{arith}
 use Rattle.header.specs.Sizes.{blocksOf}
 use Rattle.header.proofs.sizes.blocks_of.Statement.{statement}
 use Rattle.header.proofs.sizes.blocks_of.Tie as tie
@@ -9,6 +9,6 @@ unfolding blocksOf
 blocks-of-spec =
     tie.close
     (tie.spec
-    (search needs)
-    (search needs)
-    (λ c. search needs))
+    (λ c. omega arith)
+    (λ c. omega arith)
+    (λ c. omega arith))

@@ -1,5 +1,4 @@
 -- `header::sizes::data_size` meets its contract, by those of its calls.
-use borrow.Author.Needs.{needs}
 use Rattle.header.specs.Fields.{dataSize}
 use Rattle.header.proofs.sizes.data_size.Statement.{statement}
 use Rattle.header.proofs.sizes.data_size.Tie as tie
@@ -9,6 +8,6 @@ unfolding dataSize
 data-size-spec =
     tie.close
     (tie.spec
-    (search needs)
-    (search needs)
-    (λ c. cc))
+    (λ c κs. tt)
+    (λ c κs. tt)
+    (λ c. rw (c .data-size-of .ensures, c .before .stored-data-size .ensures)))

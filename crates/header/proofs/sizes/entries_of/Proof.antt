@@ -1,5 +1,5 @@
 -- `header::sizes::entries_of` meets its contract: one branch.
-use borrow.Author.Needs.{needs}
+use native.Mathlib.Omega.{arith}
 use Rattle.laws.specs.Tests.{cases}
 use Rattle.header.specs.Sizes.{entriesOf}
 use Rattle.header.proofs.sizes.entries_of.Statement.{statement}
@@ -10,6 +10,6 @@ unfolding entriesOf
 entries-of-spec =
     tie.close
     (tie.spec
-    (search needs)
+    (λ c. omega arith)
     (λ c. search cases)
     (λ c. search cases))

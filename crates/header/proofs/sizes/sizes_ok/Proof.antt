@@ -1,5 +1,5 @@
 -- `header::sizes::sizes_ok` meets its contract: a return at each test of the rule.
-use borrow.Author.Needs.{needs}
+use native.Mathlib.Omega.{arith}
 use Rattle.laws.specs.Tests.{cases}
 use Rattle.header.specs.Sizes.{sizesOk}
 use Rattle.header.proofs.sizes.sizes_ok.Statement.{statement}
@@ -13,12 +13,12 @@ sizes-ok-spec =
     (λ c. search cases)
     (λ c. search cases)
     (λ c. search cases)
-    (search needs)
+    (λ c. omega arith)
     (λ c. search cases)
     (λ c. search cases)
     (λ c. search cases)
-    (search needs)
-    (search needs)
-    (search needs)
-    (search needs)
+    (λ c. omega arith)
+    (λ c. omega arith)
+    (λ c. omega arith)
+    (λ c. omega arith)
     (λ c. search cases))

@@ -1,5 +1,5 @@
 -- `header::sizes::table_count` meets its contract, by that of `dword`.
-use borrow.Author.Needs.{needs}
+use native.Mathlib.Omega.{arith}
 use Rattle.header.specs.Sizes.{tableCount}
 use Rattle.header.proofs.sizes.table_count.Statement.{statement}
 use Rattle.header.proofs.sizes.table_count.Tie as tie
@@ -9,6 +9,6 @@ unfolding tableCount
 table-count-spec =
     tie.close
     (tie.spec
-    (search needs)
-    (search needs)
-    (λ c. cc))
+    (λ c. omega arith)
+    (λ c κs. tt)
+    (λ c. rw (← c .before .before .pre) (c .dword .ensures)))

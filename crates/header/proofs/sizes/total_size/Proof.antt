@@ -1,5 +1,4 @@
 -- `header::sizes::total_size` meets its contract, by those of its calls.
-use borrow.Author.Needs.{needs}
 use Rattle.header.specs.Fields.{totalSize}
 use Rattle.header.proofs.sizes.total_size.Statement.{statement}
 use Rattle.header.proofs.sizes.total_size.Tie as tie
@@ -9,7 +8,7 @@ unfolding totalSize
 total-size-spec =
     tie.close
     (tie.spec
-    (search needs)
-    (search needs)
-    (search needs)
-    (λ c. cc))
+    (λ c κs. tt)
+    (λ c κs. tt)
+    (λ c κs. tt)
+    (λ c. rw (c .total-size-of .ensures, c .before .before .stored-data-size .ensures, c .before .stored-total-size .ensures)))

@@ -1,10 +1,10 @@
 -- `outcome::bytes::empty_marked` meets its contract. The loop's invariant: the marked ones of the first i entries are emptied.
 use Prim.Native.Nat.{_-_, _≤_}
-use mathlib.Core.Path.{_≡_}
-use borrow.Author.Needs.{needs}
+use mathlib.Core.Path.{_≡_, refl}
 use lib.ListN.{length}
+use native.Mathlib.Omega.{arith}
 use Rattle.outcome.specs.Cleared.{cleared}
-use Rattle.outcome.specs.Marks.{marked, marking}
+use Rattle.outcome.specs.Marks.{marked, marks-more, marking}
 use Rattle.outcome.proofs.bytes.empty_marked.Statement.{statement}
 use Rattle.outcome.proofs.bytes.empty_marked.Tie as tie
 
@@ -20,13 +20,13 @@ empty-marked-spec =
     (tie.spec
     Inv-loop
     μ-loop
-    (λ c. search (needs, marking))
-    (λ c. search needs)
-    (λ c. search needs)
-    (λ c. search needs)
-    (λ c κs. search (needs, marking))
-    (λ c. search needs)
-    (λ c. search needs)
-    (λ c. search (needs, marking))
-    (λ c. search needs)
-    (λ c. search (needs, marking)))
+    (λ c. (omega arith, refl, search marking))
+    (λ c. omega arith)
+    (λ c. omega arith)
+    (λ c. omega arith)
+    (λ c κs. search marking)
+    (λ c. omega arith)
+    (λ c. omega arith)
+    (λ c. (omega arith, omega arith, marks-more _ _ _ _ _ _ _ _ (c .before .before .before .before .before .before .before .before .before .pre) (c .before .before .before .before .before .before .loop-test .taken) (c .before .before .before .before .before .before .before .loop .inv .2) (c .before .before .empty-if .ensures)))
+    (λ c. omega arith)
+    (λ c. search marking))

@@ -1,5 +1,5 @@
 -- `outcome::bytes::write_bytes` meets its contract: the marked updates emptied, the candidate put and the rest of its last block filled are the outcome's bytes.
-use borrow.Author.Needs.{needs}
+use native.Mathlib.Omega.{arith}
 use Rattle.header.specs.Sizes.{blocksOf}
 use Rattle.outcome.specs.Marks.{all-written}
 use Rattle.outcome.proofs.bytes.write_bytes.Statement.{statement}
@@ -10,17 +10,18 @@ unfolding blocksOf
 write-bytes-spec =
     tie.close
     (tie.spec
-    (λ c κs. search needs)
-    (λ c. search needs)
-    (λ c κs. search needs)
-    (λ c. search needs)
-    (λ c. search needs)
-    (λ c. search needs)
-    (λ c. search needs)
-    (λ c κs. search needs)
-    (λ c. search needs)
+    (λ c κs. c .before .before .before .pre .0)
+    (λ c. omega arith)
+    (λ c κs. omega arith)
+    (λ c. omega arith)
+    (λ c. omega arith)
+    (λ c. omega arith)
+    (λ c. omega arith)
+    (λ c κs. omega arith)
+    (λ c. omega arith)
     (λ c.
     let fill = c .before .before in
     let put = fill .before .before .before .before in
     let emptied = put .before .before .before .before in
-    all-written _ _ _ _ _ _ _ _ (emptied .empty-marked .ensures) (put .put .ensures) (fill .fill .ensures) (search needs) (search needs)))
+    let pre = emptied .before .before .before .before .pre in
+    all-written _ _ _ _ _ _ _ _ (emptied .empty-marked .ensures) (put .put .ensures) (fill .fill .ensures) (pre .1 .1) (pre .1 .0 .0)))

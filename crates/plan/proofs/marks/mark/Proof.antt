@@ -3,7 +3,6 @@ use mathlib.Core.Path.{refl}
 use mathlib.Core.Bool.{false}
 use Prim.Native.Nat.{_≤_, _-_}
 use native.Mathlib.Omega.{arith}
-use borrow.Author.Needs.{needs}
 use Rattle.laws.specs.Arrays.{Filled, filled-none, filled-more}
 use Rattle.store.specs.StoreLaws.{directory-few}
 use Rattle.plan.specs.Marks.{sharesEntry, keepsEntry}
@@ -45,18 +44,18 @@ mark-spec =
     (tie.spec
     Inv-loop
     μ-loop
-    (search needs)
-    (search needs)
+    (λ c κs. tt)
+    (λ c κs. tt)
     loop-holds
-    (λ c. search needs)
-    (λ c κs. search needs)
-    (λ c κs. search needs)
-    (λ c κs. search needs)
-    (λ c κs. search needs)
-    (λ c. search needs)
-    (λ c κs. search needs)
-    (λ c. search needs)
-    (λ c. search needs)
-    (λ c. search needs)
+    (λ c. omega arith)
+    (λ c κs. tt)
+    (λ c κs. tt)
+    (λ c κs. tt)
+    (λ c κs. ((c .before .data-size2 .ensures, c .pair-count2 .ensures), (c .before .before .before .before .before .before .before .data-size .ensures, c .before .before .before .before .before .before .pair-count .ensures)))
+    (λ c. omega arith)
+    (λ c κs. let p = c .before .before .before .before .before .before .before .before .before .before .before .before .before .pre .1 .0 in (p .0, p .1, c .before .before .data-size2 .ensures, c .before .pair-count2 .ensures))
+    (λ c. omega arith)
+    (λ c. omega arith)
+    (λ c. omega arith)
     loop-again
     returns)

@@ -2,7 +2,7 @@
 use mathlib.Core.Path.{_≡_}
 use mathlib.Core.Bool.{false}
 use Prim.Native.Nat.{_≤_, _-_}
-use borrow.Author.Needs.{needs}
+use native.Mathlib.Omega.{arith}
 use Rattle.laws.specs.Below.{anyBelow}
 use Rattle.plan.specs.Marks.{outdates}
 use Rattle.plan.specs.MarkLaws.{outdating}
@@ -21,13 +21,13 @@ outdated-spec =
     (tie.spec
     Inv-loop
     μ-loop
-    (search needs)
-    (λ c. search (needs, outdating))
-    (λ c. search needs)
-    (λ c. search needs)
-    (λ c κs. search needs)
-    (λ c. search (needs, outdating))
-    (λ c. search needs)
-    (λ c. search needs)
-    (λ c. search (needs, outdating))
-    (λ c. search (needs, outdating)))
+    (λ c κs. tt)
+    (λ c. (omega arith, search outdating))
+    (λ c. omega arith)
+    (λ c. omega arith)
+    (λ c κs. tt)
+    (λ c. search outdating)
+    (λ c. omega arith)
+    (λ c. omega arith)
+    (λ c. (omega arith, search outdating))
+    (λ c. search outdating))

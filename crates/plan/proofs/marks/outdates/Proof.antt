@@ -1,5 +1,4 @@
 -- `plan::marks::outdates` meets its contract: the mark, then the revision.
-use borrow.Author.Needs.{needs}
 use Rattle.plan.specs.MarkLaws.{outdates-yes}
 use Rattle.plan.proofs.marks.outdates.Statement.{statement}
 use Rattle.plan.proofs.marks.outdates.Tie as tie
@@ -8,7 +7,7 @@ pub outdates-spec : {M : Type 1} → statement M
 outdates-spec =
     tie.close
     (tie.spec
-    (search needs)
-    (search needs)
+    (λ c κs. tt)
+    (λ c κs. tt)
     (λ c. search outdates-yes)
     (λ c. rw (c .if1 .left)))

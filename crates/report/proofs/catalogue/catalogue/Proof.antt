@@ -1,14 +1,20 @@
 -- `report::catalogue::catalogue` meets its contract: the text, given.
-use borrow.Author.Needs.{needs}
+use native.Mathlib.Omega.{arith}
 use Rattle.text.specs.Texts.{text-short}
 use Rattle.report.proofs.catalogue.catalogue.Statement.{statement}
 use Rattle.report.proofs.catalogue.catalogue.Tie as tie
+
+returns : tie.Need-returns
+returns c =
+    let t = c .before .before .before .before .text-of in
+    let g = c .before .before .give in
+    (rw (← t .ensures .0) (g .ensures .0), (rw (← t .ensures .0) (g .ensures .1), text-short (t .result) _ (t .ensures .0) (t .ensures .1)))
 
 pub catalogue-spec : {M : Type 1} → statement M
 catalogue-spec =
     tie.close
     (tie.spec
-    (search needs)
-    (search needs)
-    (search needs)
-    (λ c. ((cc), ((cc), search text-short))))
+    (λ c κs. tt)
+    (λ c κs. c .before .text-of .ensures .1)
+    (λ c. omega arith)
+    returns)

@@ -1,7 +1,7 @@
 -- `report::catalogue::listing` meets its contract. The loop's invariant: the lines of the blocks passed are added, and the unused ones among them are counted.
 use mathlib.Core.Path.{_≡_}
 use Prim.Native.Nat.{_≤_, _-_, _*_}
-use borrow.Author.Needs.{needs}
+use native.Mathlib.Omega.{arith}
 use Rattle.store.specs.StoreLaws.{directory-few}
 use Rattle.report.specs.Catalogue.{linesTo, freeTo}
 use Rattle.report.specs.CatalogueLaws.{kind-is, lines-none, lines-more, free-none, free-more, text-good}
@@ -15,25 +15,41 @@ Inv-loop s d n t₀ free₀ b₀ t11 t free b = (b ≤ n) × Added t₀ t (lines
 abbrev μ-loop : tie.MeasureT-loop
 μ-loop s d n t₀ free₀ b₀ t11 t free b = n - b
 
+block-line-requires : tie.Need-block-line-requires Inv-loop μ-loop
+block-line-requires c κs =
+    let p = c .before .before .before .before .before .before .before .before .pre in
+    (p .0, omega arith, kind-is _ _ _ _ _ (p .0) (p .1) (p .2) (c .before .loop-test .taken) (c .block-kind .ensures), omega arith)
+
+loop-again : tie.Need-loop-again Inv-loop μ-loop
+loop-again c =
+    let b = c .before .before in
+    let l = b .before .before .loop in
+    let p = b .before .before .before .before .before .before .before .before .pre in (
+      omega arith,
+      lines-more _ _ _ _ _ (l .inv .1) (c .before .block-line .ensures),
+      free-more _ _ _ _ _ (l .inv .2) (kind-is _ _ _ _ _ (p .0) (p .1) (p .2) (b .before .loop-test .taken) (b .block-kind .ensures)) (c .one-if-free .ensures .0),
+      omega arith,
+    )
+
 pub listing-spec : {M : Type 1} → statement M
 listing-spec =
     tie.close
     (tie.spec
     Inv-loop
     μ-loop
-    (λ c κs. search needs)
-    (λ c. search needs)
-    (λ c κs. search needs)
-    (λ c κs. search needs)
-    (λ c. search (needs, lines-none, free-none))
+    (λ c κs. tt)
+    (λ c. omega arith)
+    (λ c κs. omega arith)
+    (λ c κs. omega arith)
+    (λ c. (omega arith, search lines-none, search free-none, omega arith))
     (λ c κs. search directory-few)
-    (λ c κs. (search needs, search needs, search kind-is, search needs))
-    (λ c κs. search needs)
-    (λ c. search needs)
-    (λ c. search needs)
-    (λ c. search needs)
-    (λ c. (search needs, search lines-more, search (kind-is, free-more), search needs))
-    (λ c. search needs)
-    (λ c κs. search needs)
-    (λ c κs. search needs)
-    (λ c. (search text-good, search needs)))
+    block-line-requires
+    (λ c κs. tt)
+    (λ c. omega arith)
+    (λ c. omega arith)
+    (λ c. omega arith)
+    loop-again
+    (λ c. omega arith)
+    (λ c κs. omega arith)
+    (λ c κs. omega arith)
+    (λ c. (search text-good, omega arith)))

@@ -1,5 +1,4 @@
 -- `report::lines::line` meets its contract, by those of its calls.
-use borrow.Author.Needs.{needs}
 use native.Mathlib.Omega.{arith}
 use Rattle.report.specs.Catalogue.{lineOf}
 use Rattle.text.specs.Lists.{joined}
@@ -11,10 +10,10 @@ unfolding lineOf
 line-spec =
     tie.close
     (tie.spec
-    (search needs)
-    (search needs)
-    (search needs)
-    (search needs)
-    (search needs)
-    (search needs)
+    (λ c κs. omega arith)
+    (λ c κs. omega arith)
+    (λ c κs. omega arith)
+    (λ c κs. omega arith)
+    (λ c κs. omega arith)
+    (λ c κs. omega arith)
     (λ c. record { text = search joined; long = omega arith }))

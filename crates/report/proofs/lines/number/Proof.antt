@@ -1,5 +1,6 @@
 -- `report::lines::number` meets its contract, by those of its calls.
 use borrow.Author.Needs.{needs}
+use native.Mathlib.Omega.{arith}
 use Rattle.text.specs.Texts.{added-both}
 use Rattle.report.proofs.lines.number.Statement.{statement}
 use Rattle.report.proofs.lines.number.Tie as tie
@@ -8,6 +9,6 @@ pub number-spec : {M : Type 1} → statement M
 number-spec =
     tie.close
     (tie.spec
-    (search needs)
-    (search needs)
+    (λ c κs. omega arith)
+    (λ c κs. omega arith)
     (λ c. search (needs, added-both)))

@@ -1,5 +1,5 @@
 -- `report::lines::one_if_free` meets its contract, by the kind.
-use borrow.Author.Needs.{needs}
+use native.Mathlib.Omega.{arith}
 use Rattle.report.specs.Catalogue.{oneIfFree}
 use Rattle.report.proofs.lines.one_if_free.Statement.{statement}
 use Rattle.report.proofs.lines.one_if_free.Tie as tie
@@ -9,9 +9,9 @@ unfolding oneIfFree
 one-if-free-spec =
     tie.close
     (tie.spec
-    (search needs)
-    (search needs)
-    (search needs)
-    (λ c. (cc, search needs))
-    (λ c. (cc, search needs))
-    (λ c. (cc, search needs)))
+    (λ c. omega arith)
+    (λ c. omega arith)
+    (λ c. omega arith)
+    (λ c. ((cc), omega arith))
+    (λ c. ((cc), omega arith))
+    (λ c. ((cc), omega arith)))

@@ -1,10 +1,9 @@
 -- `text::give::copy` meets its contract. The loop's invariant: the bytes passed are copied.
 use native.Mathlib.Omega.{arith}
-use borrow.Author.Needs.{needs}
-use mathlib.Core.Path.{_≡_}
+use mathlib.Core.Path.{_≡_, refl}
 use mathlib.Core.List.{_++_}
 use Prim.Native.Nat.{_≤_, _-_}
-use lib.ListN.{length, take, drop}
+use lib.ListN.{length, take, drop, length-set}
 use Rattle.text.specs.Lists.{copy-more, copy-done}
 use Rattle.text.proofs.give.copy.Statement.{statement}
 use Rattle.text.proofs.give.copy.Tie as tie
@@ -21,11 +20,11 @@ copy-spec =
     (tie.spec
     Inv-loop
     μ-loop
-    (λ c. search needs)
-    (λ c. search needs)
-    (λ c. search needs)
-    (λ c. search needs)
-    (λ c. search needs)
-    (λ c. (search needs, search needs, copy-more _ _ _ _ _ (c .before .loop .inv .2) (c .loop-test .taken) (omega arith) (omega arith)))
-    (λ c. search needs)
-    (λ c. search (needs, copy-done)))
+    (λ c. (omega arith, refl, refl))
+    (λ c. omega arith)
+    (λ c. omega arith)
+    (λ c. omega arith)
+    (λ c. omega arith)
+    (λ c. (omega arith, simp length-set (c .before .loop .inv .1), copy-more _ _ _ _ _ (c .before .loop .inv .2) (c .loop-test .taken) (omega arith) (omega arith)))
+    (λ c. omega arith)
+    (λ c. copy-done _ _ _ _ _ (c .before .loop .inv .2) (c .before .loop .inv .0) (c .loop-test .left)))

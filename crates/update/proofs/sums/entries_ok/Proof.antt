@@ -1,8 +1,8 @@
 -- `update::sums::entries_ok` meets its contract. The loop's invariant: each entry passed has the right sum.
-use borrow.Author.Needs.{needs}
 use mathlib.Core.Path.{_≡_}
 use mathlib.Core.Bool.{true}
 use Prim.Native.Nat.{_≤_, _-_}
+use native.Mathlib.Omega.{arith}
 use Rattle.laws.specs.Below.{allBelow}
 use Rattle.laws.specs.Loops.{each}
 use Rattle.header.specs.Sizes.{entryOffset}
@@ -23,10 +23,10 @@ entries-ok-spec =
     (tie.spec
     Inv-loop
     μ-loop
-    (λ c. search (needs, each))
-    (λ c κs. search (needs, each))
-    (λ c. search (needs, each))
-    (λ c. search (needs, each))
-    (λ c. search (needs, each))
-    (λ c. search (needs, each))
-    (λ c. search (needs, each)))
+    (λ c. (omega arith, search each))
+    (λ c κs. omega arith)
+    (λ c. omega arith)
+    (λ c. omega arith)
+    (λ c. (omega arith, search each))
+    (λ c. search each)
+    (λ c. search each))

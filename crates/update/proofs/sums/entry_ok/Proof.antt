@@ -1,23 +1,29 @@
 -- `update::sums::entry_ok` meets its contract, by that of `sum_of`.
-use borrow.Author.Needs.{needs}
+use native.Mathlib.Omega.{arith}
 use Rattle.header.specs.Sizes.{entryOffset}
 use Rattle.update.specs.Sums.{entryOk}
 use Rattle.update.proofs.sums.entry_ok.Statement.{statement}
 use Rattle.update.proofs.sums.entry_ok.Tie as tie
 
-pub entry-ok-spec : {M : Type 1} → statement M
+returns : tie.Need-returns
 unfolding entryOk entryOffset
+returns c =
+    rw
+    (c .sum-of .ensures, c .before .before .before .dword-inside .ensures, c .before .before .dword-inside2 .ensures, c .before .dword-inside3 .ensures)
+
+pub entry-ok-spec : {M : Type 1} → statement M
+unfolding entryOffset
 entry-ok-spec =
     tie.close
     (tie.spec
-    (search needs)
-    (search needs)
-    (search needs)
-    (search needs)
-    (search needs)
-    (search needs)
-    (search needs)
-    (search needs)
-    (search needs)
-    (search needs)
-    (λ c. cc))
+    (λ c. omega arith)
+    (λ c. omega arith)
+    (λ c. omega arith)
+    (λ c. omega arith)
+    (λ c κs. omega arith)
+    (λ c. omega arith)
+    (λ c κs. omega arith)
+    (λ c. omega arith)
+    (λ c κs. omega arith)
+    (λ c κs. tt)
+    returns)

@@ -1,5 +1,4 @@
 -- `update::sums::header_sum` meets its contract, by that of `sum_of`.
-use borrow.Author.Needs.{needs}
 use Rattle.update.specs.Sums.{headerSum}
 use Rattle.update.proofs.sums.header_sum.Statement.{statement}
 use Rattle.update.proofs.sums.header_sum.Tie as tie
@@ -9,8 +8,8 @@ unfolding headerSum
 header-sum-spec =
     tie.close
     (tie.spec
-    (search needs)
-    (search needs)
-    (search needs)
-    (search needs)
-    (λ c. cc))
+    (λ c κs. tt)
+    (λ c κs. tt)
+    (λ c κs. tt)
+    (λ c κs. tt)
+    (λ c. rw (c .sum-of .ensures, c .before .before .before .signature .ensures, c .before .before .flags .ensures, c .before .checksum .ensures)))

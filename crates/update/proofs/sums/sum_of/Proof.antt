@@ -1,5 +1,4 @@
 -- `update::sums::sum_of` meets its contract, by `sum-three`.
-use borrow.Author.Needs.{needs}
 use Rattle.update.specs.SumLaws.{sum-three}
 use Rattle.update.proofs.sums.sum_of.Statement.{statement}
 use Rattle.update.proofs.sums.sum_of.Tie as tie
@@ -8,6 +7,6 @@ pub sum-of-spec : {M : Type 1} → statement M
 sum-of-spec =
     tie.close
     (tie.spec
-    (search needs)
-    (search needs)
+    (λ c κs. tt)
+    (λ c κs. tt)
     (λ c. search sum-three))

@@ -1,5 +1,4 @@
 -- `update::sums::sums_ok` meets its contract: one sum of each part, and a return at each test.
-use borrow.Author.Needs.{needs}
 use native.Mathlib.Omega.{arith}
 use lib.ListN.{length-take}
 use Rattle.update.specs.SumLaws.{summing}
@@ -10,16 +9,16 @@ pub sums-ok-spec : {M : Type 1} → statement M
 sums-ok-spec =
     tie.close
     (tie.spec
-    (search needs)
-    (search needs)
-    (search needs)
-    (search needs)
-    (search needs)
+    (λ c. omega arith)
+    (λ c. omega arith)
+    (λ c. omega arith)
+    (λ c. omega arith)
+    (λ c κs. tt)
     (λ c. simp length-take (omega arith))
-    (search needs)
-    (search needs)
+    (λ c κs. tt)
+    (λ c κs. tt)
     (λ c. search summing)
     (λ c. search summing)
-    (search needs)
-    (search needs)
+    (λ c κs. tt)
+    (λ c κs. omega arith)
     (λ c. search summing))

@@ -1,5 +1,4 @@
 -- `update::verdict::check_update` meets its contract: the checks in their order.
-use borrow.Author.Needs.{needs}
 use Rattle.laws.specs.Unless.{checks}
 use Rattle.update.specs.Verdict.{verdict}
 use Rattle.header.specs.SizeLaws.{inside-of, entry-count-is}
@@ -7,19 +6,24 @@ use Rattle.update.specs.VerdictLaws.{good-is}
 use Rattle.update.proofs.verdict.check_update.Statement.{statement}
 use Rattle.update.proofs.verdict.check_update.Tie as tie
 
+sums-ok-requires : tie.Need-sums-ok-requires
+sums-ok-requires c κs =
+    let b = c .before .before .before in
+    (search inside-of, b .before .before .data-size .ensures, b .before .total-size .ensures, search entry-count-is)
+
 pub check-update-spec : {M : Type 1} → statement M
 unfolding verdict
 check-update-spec =
     tie.close
     (tie.spec
-    (search needs)
-    (search needs)
-    (search needs)
-    (search needs)
-    (search needs)
-    (search needs)
-    (λ c κs. (search inside-of, search needs, search needs, search entry-count-is))
-    (search needs)
+    (λ c κs. tt)
+    (λ c κs. tt)
+    (λ c κs. tt)
+    (λ c κs. c .before .data-size .ensures)
+    (λ c κs. (c .before .before .data-size .ensures, c .before .total-size .ensures, c .table-count .ensures))
+    (λ c κs. tt)
+    sums-ok-requires
+    (λ c κs. tt)
     (λ c. search (checks, entry-count-is, good-is))
     (λ c. search checks)
     (λ c. search checks)

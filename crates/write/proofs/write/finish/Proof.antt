@@ -1,6 +1,6 @@
 -- `write::write::finish` meets its contract: check 9, then the bytes, by cases of the answer of checks 1 to 8.
 use mathlib.Core.Path.{refl, sym, _∙_}
-use borrow.Author.Needs.{needs}
+use native.Mathlib.Omega.{arith}
 use Rattle.write.specs.Storing.{storing}
 use Rattle.write.specs.WriteCases.{back-right, bytes-written, answered, left}
 use Rattle.write.proofs.write.finish.Statement.{statement}
@@ -17,15 +17,15 @@ pub finish-spec : {M : Type 1} → statement M
 finish-spec =
     tie.close
     (tie.spec
-    (search needs)
-    (search needs)
+    (λ c. omega arith)
+    (λ c κs. tt)
     (λ c κs. search storing)
-    (search needs)
-    (search needs)
-    (search needs)
-    (search needs)
-    (search needs)
-    (search needs)
+    (λ c κs. tt)
+    (λ c. omega arith)
+    (λ c. omega arith)
+    (λ c. omega arith)
+    (λ c. omega arith)
+    (λ c. omega arith)
     returns
     (λ c. (search answered, search left))
     (λ c. (search answered, search left))

@@ -1,5 +1,5 @@
 -- `write::write::store_candidate` meets its contract: the marks beside the directory say which updates go.
-use borrow.Author.Needs.{needs}
+use native.Mathlib.Omega.{arith}
 use Rattle.write.specs.Storing.{entries-for, run-inside, whole-lent, stored-bytes}
 use Rattle.write.proofs.write.store_candidate.Statement.{statement}
 use Rattle.write.proofs.write.store_candidate.Tie as tie
@@ -8,15 +8,15 @@ pub store-candidate-spec : {M : Type 1} → statement M
 store-candidate-spec =
     tie.close
     (tie.spec
-    (search needs)
-    (search needs)
-    (λ c κs. search needs)
-    (search needs)
+    (λ c κs. tt)
+    (λ c κs. tt)
+    (λ c κs. omega arith)
+    (λ c. omega arith)
     (λ c κs.
     let y = c .before .before .before .before .before .before .pre in
     let t = c .before .before .before .total-size .ensures in
     (entries-for _ _ _ _ y, (whole-lent _ _ _ _ y _ t, run-inside _ _ _ _ y _ t)))
-    (search needs)
+    (λ c. omega arith)
     (λ c.
     let at = c .before .before .before .before .before .before in
     stored-bytes _ _ _ _ (at .before .before .before .pre) _ _ _ _ (at .total-size .ensures) (c .before .before .before .before .before .blocks-of .ensures) (c .before .before .before .before .to-fill .ensures) (c .before .before .write-bytes .ensures)))

@@ -1,5 +1,5 @@
 -- `write::write::write` meets its contract: checks 1 to 4, each with its refusal, then the rest. Demand 3 follows from the two equations.
-use borrow.Author.Needs.{needs}
+use native.Mathlib.Omega.{arith}
 use Rattle.processors.specs.ListLaws.{list-right}
 use Rattle.write.specs.PlanCases.{plans, good-plan}
 use Rattle.write.specs.WriteCases.{meant-refused, meant-good}
@@ -10,24 +10,24 @@ pub write-spec : {M : Type 1} → statement M
 write-spec =
     tie.close
     (tie.spec
-    (search needs)
-    (search needs)
-    (search needs)
-    (search needs)
-    (search needs)
-    (search needs)
-    (search needs)
-    (search needs)
-    (λ c κs. ((search needs, search needs, search list-right), search good-plan))
-    (search needs)
-    (search needs)
-    (search needs)
+    (λ c κs. tt)
+    (λ c κs. tt)
+    (λ c κs. tt)
+    (λ c. omega arith)
+    (λ c κs. tt)
+    (λ c. omega arith)
+    (λ c κs. tt)
+    (λ c. omega arith)
+    (λ c κs. ((c .before .before .before .before .before .before .before .before .read-store .ensures, c .before .before .before .before .before .before .before .if1 .taken, search list-right), search good-plan))
+    (λ c κs. tt)
+    (λ c κs. tt)
+    (λ c. omega arith)
     (λ c. meant-refused _ _ _ _ _ _ _ _ (search plans) (c .refuse .ensures))
-    (search needs)
+    (λ c. omega arith)
     (λ c. meant-refused _ _ _ _ _ _ _ _ (search plans) (c .refuse2 .ensures))
-    (search needs)
+    (λ c. omega arith)
     (λ c. let g = c .before .before .write-good .ensures in meant-good _ _ _ _ _ _ _ _ (search good-plan) (g .0) (g .1))
-    (search needs)
+    (λ c. omega arith)
     (λ c. meant-refused _ _ _ _ _ _ _ _ (search plans) (c .refuse3 .ensures))
-    (search needs)
+    (λ c. omega arith)
     (λ c. meant-refused _ _ _ _ _ _ _ _ (search plans) (c .refuse4 .ensures)))

@@ -1,5 +1,5 @@
 -- `write::write::write_good` meets its contract: check 5, then the marks, checks 6 to 9 and the bytes.
-use borrow.Author.Needs.{needs}
+use native.Mathlib.Omega.{arith}
 use Rattle.processors.specs.ListLaws.{list-few, list-same}
 use Rattle.store.specs.ValidLaws.{blocks-few}
 use Rattle.write.specs.PlanCases.{good-absent, good-marked}
@@ -18,16 +18,27 @@ finish-requires c κs =
     (good-marked _ _ _ _ _ _ _ _ (one .before .covered .ensures) (one .covers-one .ensures) (tested .if1 .taken) (m .result) (m .ensures) (c .before .before .before .before .before .plan-marked .ensures))
     (m .ensures)
 
+returns : tie.Need-returns
+returns c =
+    let planned = c .before .before .before .before .before .before .before .before in
+    let marked = planned .before .before .before .before .before .before .before in
+    let m = marked .mark in
+    let tested = marked .before .before in
+    let one = tested .before in (
+      back-same _ _ _ _ _ (c .before .before .finish .ensures .0) (good-marked _ _ _ _ _ _ _ _ (one .before .covered .ensures) (one .covers-one .ensures) (tested .if1 .taken) (m .result) (m .ensures) (planned .plan-marked .ensures)),
+      c .before .before .finish .ensures .1,
+    )
+
 pub write-good-spec : {M : Type 1} → statement M
 write-good-spec =
     tie.close
     (tie.spec
-    (λ c κs. search (needs, list-few, list-same))
+    (λ c κs. let p = c .before .before .before .before .pre .0 .2 in (list-few _ _ p, list-same _ _ p))
     (λ c κs. search list-few)
-    (λ c κs. search (needs, list-few, list-same))
-    (λ c κs. search (needs, blocks-few))
+    (λ c κs. let p = c .before .before .before .before .before .before .before .before .pre .0 in (p .0, ((list-few _ _ (p .2), list-same _ _ (p .2)), c .before .before .before .covered .ensures)))
+    (λ c κs. (c .before .before .before .before .before .before .mark .ensures .shared, search blocks-few))
     finish-requires
-    (λ c κs. search needs)
-    (search needs)
-    (λ c. (search (back-same, good-marked), search needs))
+    (λ c κs. tt)
+    (λ c. omega arith)
+    returns
     (λ c. (search (stays-refused, good-absent), search stays-bytes)))
