@@ -1,4 +1,6 @@
 // Cases of a store: presence, control, reads and load choices at each edge.
+ghost use mathlib.Core.Path.{_≡_};
+ghost use lib.ListN.{length};
 use crate::make;
 use crate::say;
 
@@ -8,6 +10,36 @@ fn catalogue() {
     let buf: &mut [u8] = &mut space;
     make::four_blocks(buf);
     say::catalogue(make::first(buf, 8192));
+}
+
+// Room for one byte more than the largest store has.
+fn input_space() -> [u8; 65537]
+    ensures { λ r. ⌜ 65537 ≡ length r ⌝ }
+{
+    [0; 65537]
+}
+
+// The catalogue of an input of `n` bytes FFh that arrives in pieces of 777 bytes.
+fn in_pieces(label: &[u8], n: u32) {
+    let mut space = input_space();
+    let buffer: &mut [u8] = &mut space;
+    let piece = [255u8; 777];
+    let mut have: usize = 0;
+    let mut left = n;
+    while left > 777 {
+        have = input::add(buffer, have, &piece);
+        left -= 777;
+    }
+    have = input::add(buffer, have, make::first(&piece, left as usize));
+    say::text(label);
+    say::catalogue(make::first(buffer, have));
+}
+
+fn inputs() {
+    in_pieces(b"no input: ", 0);
+    in_pieces(b"65,536 bytes FFh in pieces: ", 65536);
+    in_pieces(b"65,537 bytes FFh in pieces: ", 65537);
+    in_pieces(b"67,584 bytes FFh in pieces: ", 67584);
 }
 
 fn presence(label: &[u8], n: usize) {
@@ -122,6 +154,7 @@ fn loads() {
 
 pub fn run() {
     catalogue();
+    inputs();
     presences();
     controls();
     reads();

@@ -4,6 +4,7 @@ pub mod Orders
 pub mod Below
 pub mod Loops
 pub mod Count
+pub mod Listed
 pub mod First
 pub mod Least
 pub mod Arrays

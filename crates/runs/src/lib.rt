@@ -2,13 +2,11 @@
 // blocks from `start` on; `shares` says that it covers a processor that the candidate covers, `keeps` that it covers a listed one that the
 // candidate doesn't.
 ghost use mathlib.Core.Path.{_≡_};
-ghost use mathlib.Core.Bool.{not, _&&_, _||_};
-ghost use Prim.Native.Nat.{_+_};
-ghost use lib.Dec.{ltb, leb};
+ghost use Rattle.runs.specs.Runs.{touches, goes, bars, loses, within, fills};
 
 // Does the run of `k` blocks from `s` touch the update of `size` blocks from `start`?
 fn touches(start: u8, size: u8, k: u32, s: u32) -> bool
-    ensures { λ r. ⌜ r ≡ ltb s (start + size) && ltb start (s + k) ⌝ }
+    ensures { λ r. ⌜ r ≡ touches start size k s ⌝ }
 {
     if (s as usize) < start as usize + size as usize {
         (start as usize) < s as usize + k as usize
@@ -19,7 +17,7 @@ fn touches(start: u8, size: u8, k: u32, s: u32) -> bool
 
 // Is the update emptied if the candidate goes to `s`?
 fn goes(start: u8, size: u8, shares: bool, k: u32, s: u32) -> bool
-    ensures { λ r. ⌜ r ≡ shares || (ltb s (start + size) && ltb start (s + k)) ⌝ }
+    ensures { λ r. ⌜ r ≡ goes start size shares k s ⌝ }
 {
     if shares {
         true
@@ -30,7 +28,7 @@ fn goes(start: u8, size: u8, shares: bool, k: u32, s: u32) -> bool
 
 // Would the update be emptied, and must it not be?
 pub fn bars(start: u8, size: u8, shares: bool, keeps: bool, k: u32, s: u32) -> bool
-    ensures { λ r. ⌜ r ≡ keeps && (shares || (ltb s (start + size) && ltb start (s + k))) ⌝ }
+    ensures { λ r. ⌜ r ≡ bars start size shares keeps k s ⌝ }
 {
     if keeps {
         goes(start, size, shares, k, s)
@@ -41,7 +39,7 @@ pub fn bars(start: u8, size: u8, shares: bool, keeps: bool, k: u32, s: u32) -> b
 
 // Is the update touched, and does it not share?
 pub fn loses(start: u8, size: u8, shares: bool, k: u32, s: u32) -> bool
-    ensures { λ r. ⌜ r ≡ not shares && (ltb s (start + size) && ltb start (s + k)) ⌝ }
+    ensures { λ r. ⌜ r ≡ loses start size shares k s ⌝ }
 {
     if shares {
         false
@@ -52,7 +50,7 @@ pub fn loses(start: u8, size: u8, shares: bool, k: u32, s: u32) -> bool
 
 // Are all blocks of the update blocks of the run?
 fn within(start: u8, size: u8, k: u32, s: u32) -> bool
-    ensures { λ r. ⌜ r ≡ leb s start && leb (start + size) (s + k) ⌝ }
+    ensures { λ r. ⌜ r ≡ within start size k s ⌝ }
 {
     if s as usize <= start as usize {
         start as usize + size as usize <= s as usize + k as usize
@@ -63,7 +61,7 @@ fn within(start: u8, size: u8, k: u32, s: u32) -> bool
 
 // Is the update emptied, and are not all of its blocks the run's?
 pub fn fills(start: u8, size: u8, shares: bool, k: u32, s: u32) -> bool
-    ensures { λ r. ⌜ r ≡ not (leb s start && leb (start + size) (s + k)) && (shares || (ltb s (start + size) && ltb start (s + k))) ⌝ }
+    ensures { λ r. ⌜ r ≡ fills start size shares k s ⌝ }
 {
     if within(start, size, k, s) {
         false

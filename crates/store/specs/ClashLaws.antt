@@ -29,7 +29,7 @@ abbrev pub Kept : (List ℕ → ℕ) → List ℕ → List ℕ → ℕ → List 
 Kept f s xs i held = Filled 0 32 (ofStart f s xs) i held
 
 pub kept-none : (f : List ℕ → ℕ) (s xs : List ℕ) → Kept f s xs 0 (replicate 32 0)
-kept-none f s xs = filled-none _ _ _ _ refl
+kept-none f s xs = filled-none _ _ _
 
 -- what stands in the arrays, of a part b that is read anew
 module _ (s xs b : List ℕ) (k i : ℕ) (held : List ℕ) (l : k < i) (e : b ≡ fromBlock s (getD xs k 0)) where

@@ -14,10 +14,11 @@
 --   storeOk, directory      the verdict on a store, and its directory
 use Prim.Native.Nat.{ℕ, zero, suc, _+_, _-_}
 use mathlib.Core.Bool.{Bool, true, false, cond, not, _&&_}
-use mathlib.Core.List.{List, [], _∷_, _++_}
+use mathlib.Core.List.{List, _++_}
 use lib.ListN.{length, getD, replicate}
 use lib.Dec.{leb}
 use Rattle.laws.specs.Below.{allBelow, anyBelow}
+use Rattle.laws.specs.Listed.{itself, listBelow}
 use Rattle.sharing.specs.Shares.{shares}
 use Rattle.blocks.specs.Blocks.{fromBlock, blockCount, lengthOk}
 use Rattle.blocks.specs.Slot.{slotOf}
@@ -67,13 +68,11 @@ first s b = begins s b && isUpdate (slotAt s b)
 unfoldable pub sound : List ℕ → ℕ → Bool
 sound s b = not (begins s b && isBad (slotAt s b))
 
-unfoldable pub startsTo : List ℕ → ℕ → List ℕ
-startsTo s zero = []
-startsTo s (suc b) = cond (first s b) (startsTo s b ++ (b ∷ [])) (startsTo s b)
+abbrev pub startsTo : List ℕ → ℕ → List ℕ
+startsTo s b = listBelow (first s) itself b
 
-unfoldable pub sizesTo : List ℕ → ℕ → List ℕ
-sizesTo s zero = []
-sizesTo s (suc b) = cond (first s b) (sizesTo s b ++ (sizeAt s b ∷ [])) (sizesTo s b)
+abbrev pub sizesTo : List ℕ → ℕ → List ℕ
+sizesTo s b = listBelow (first s) (sizeAt s) b
 
 -- a list of up to 32 numbers as an array of 32
 unfoldable pub pad : List ℕ → List ℕ

@@ -15,6 +15,7 @@ use lib.Seq.{append-snoc, set-append-seam}
 use lib.Dec.{leb}
 use borrow.Author.Tests.{le-leb, lt-leb}
 use Rattle.laws.specs.Below.{allBelow, all-none, all-more}
+use Rattle.laws.specs.Listed.{listBelow}
 use Rattle.blocks.specs.Blocks.{fromBlock}
 use Rattle.blocks.specs.Slot.{slotOf}
 use Rattle.store.specs.Scan.{slotAt, nextSlot, begins, first, sound, startsTo, sizesTo, pad}
@@ -51,7 +52,7 @@ state-named s b count next c n starts sizes xs ys e f g h st = rw (e, f, g, h) s
 
 module _ (s : List ℕ) where
   pub state-start : State s 0 0 0 (replicate 32 0) (replicate 32 0)
-  unfolding nextSlot startsTo sizesTo pad
+  unfolding nextSlot listBelow pad
   state-start = record { next-is = refl; count-is = refl; sizes-long = refl; few = omega arith; starts-are = refl; sizes-are = refl; all-sound = all-none (sound s) }
 
   module _ (b count next : ℕ) (starts sizes : List ℕ) (st : State s b count next starts sizes) where
@@ -63,7 +64,7 @@ module _ (s : List ℕ) where
 
     -- block b is a later block of an update
     pub state-later : b < next → State s (b + 1) count next starts sizes
-    unfolding nextSlot startsTo sizesTo first sound begins
+    unfolding nextSlot listBelow first sound begins
     state-later l =
         record {
           next-is = rw (add-one b, later l) (st .next-is);
@@ -76,7 +77,7 @@ module _ (s : List ℕ) where
         }
 
     pub state-unused : next ≤ b → slotAt s b ≡ Unused → State s (b + 1) count (b + 1) starts sizes
-    unfolding nextSlot startsTo sizesTo first sound begins
+    unfolding nextSlot listBelow first sound begins
     state-unused l e =
         record {
           next-is = rw (add-one b, here l, e) (sym (add-one b));
@@ -89,7 +90,7 @@ module _ (s : List ℕ) where
         }
 
     pub state-update : b < 32 → next ≤ b → (k : ℕ) → slotAt s b ≡ Update k → State s (b + 1) (count + 1) (b + k) (set starts count b) (set sizes count k)
-    unfolding nextSlot startsTo sizesTo first sound begins
+    unfolding nextSlot listBelow first sound begins
     state-update l32 l k e =
         record {
           next-is = rw (add-one b, here l, e);

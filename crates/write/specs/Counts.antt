@@ -9,6 +9,7 @@ use mathlib.Core.List.{List, [], _∷_, _++_}
 use native.Mathlib.Omega.{arith}
 use lib.ListN.{length, getD, length-append, List·getD-append}
 use lib.Seq.{getD-at}
+use Rattle.laws.specs.Listed.{listBelow}
 use Rattle.laws.specs.Count.{countBelow, count-cong}
 use Rattle.blocks.specs.Blocks.{blockCount}
 use Rattle.store.specs.Scan.{first, startsTo, pad, listed, storeOk, directory}
@@ -32,7 +33,7 @@ entry-more xs e n m q =
 
 module _ (s : List ℕ) (e : ℕ → Bool) where
   pub entries-count : (n : ℕ) → countBelow (length (startsTo s n)) (atEntry (startsTo s n) e) ≡ countBelow n (storedIn s e)
-  unfolding countBelow storedIn startsTo
+  unfolding countBelow storedIn listBelow
   entries-count zero = refl
   entries-count (suc n) = go (entries-count n) (first s n)
     where

@@ -1,5 +1,4 @@
 -- `placement::to_fill` meets its contract. The loop's invariant: the marks passed are right.
-use mathlib.Core.Path.{refl}
 use mathlib.Core.Bool.{false}
 use mathlib.Core.List.{[]}
 use Prim.Native.Nat.{_≤_, _<_, _-_, zero-le}
@@ -36,7 +35,7 @@ to-fill-spec =
     (tie.spec
     Inv-loop
     μ-loop
-    (λ c. (zero-le, filled-none _ _ _ _ refl))
+    (λ c. (zero-le, filled-none _ _ _))
     below
     (λ c. below (c .before))
     (λ c. below (c .before .before))

@@ -1,5 +1,4 @@
 -- `plan::marks::mark` meets its contract. The loop's invariant: the marks of the updates passed are right.
-use mathlib.Core.Path.{refl}
 use mathlib.Core.Bool.{false}
 use Prim.Native.Nat.{_≤_, _-_}
 use native.Mathlib.Omega.{arith}
@@ -18,7 +17,7 @@ abbrev μ-loop : tie.MeasureT-loop
 μ-loop store signatures platforms marks candidate d «data» pairs shared₀ keeps₀ i₀ shared keeps i = d .count - i
 
 loop-holds : tie.Need-loop-holds Inv-loop μ-loop
-loop-holds c = (omega arith, directory-few _ _ (c .before .before .before .before .before .before .pre .0), filled-none _ _ _ _ refl, filled-none _ _ _ _ refl)
+loop-holds c = (omega arith, directory-few _ _ (c .before .before .before .before .before .before .pre .0), filled-none _ _ _, filled-none _ _ _)
 
 loop-again : tie.Need-loop-again Inv-loop μ-loop
 loop-again c =
