@@ -1,8 +1,8 @@
 // A line of output for each kind of answer.
 use crate::make;
 use answers::answer::Answer;
+use answers::choice::LoadChoice;
 use libc::STDOUT_FILENO;
-use load::LoadChoice;
 use text::Report;
 use update::verdict::Verdict;
 

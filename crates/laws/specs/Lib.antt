@@ -1,6 +1,7 @@
 -- General definitions and laws: nothing here names an update, a store or a call.
 pub mod Bools
 pub mod Orders
+pub mod Span
 pub mod Below
 pub mod Loops
 pub mod Count

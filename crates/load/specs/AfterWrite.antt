@@ -10,7 +10,7 @@ use Rattle.coverage.specs.Covers.{covers}
 use Rattle.processors.specs.Processors.{Listed}
 use Rattle.view.specs.View.{dataPart}
 use Rattle.load.specs.Load.{loadChoice, chosenData}
-use Rattle.load.specs.declared.LoadChoice.the-variants.{Chosen}
+use Rattle.answers.specs.declared.choice.LoadChoice.the-variants.{Chosen}
 
 abbrev pub SameLoad : List ℕ → List ℕ → ℕ → ℕ → Type 0
 SameLoad old new x p = (loadChoice true new x p ≡ loadChoice true old x p) × (chosenData new (loadChoice true new x p) ≡ chosenData old (loadChoice true old x p))

@@ -51,7 +51,7 @@ use Rattle.view.specs.ViewLaws.{part-local}
 use Rattle.load.specs.Load.{holds, chosenAt, found, loadChoice, chosenData}
 use Rattle.load.specs.LoadLaws.{holder-one, holder-none}
 use Rattle.load.specs.AfterWrite.{SameLoad, LoadsAfter}
-use Rattle.load.specs.declared.LoadChoice.the-variants.{Nothing, Chosen}
+use Rattle.answers.specs.declared.choice.LoadChoice.the-variants.{Nothing, Chosen}
 
 module _ (s : List ℕ) (ok : storeOk s ≡ true) (x p : ℕ) (l : p ≤ 7) where
   pub choice-one : (b : ℕ) → b < blockCount s → first s b ≡ true → covers (fromBlock s b) x p ≡ true → loadChoice true s x p ≡ Chosen b (revision (fromBlock s b))

@@ -7,8 +7,8 @@ use lib.ListN.{take}
 use Rattle.view.specs.View.{dataPart}
 use Rattle.blocks.specs.Blocks.{fromBlock}
 use Rattle.load.specs.Load.{chosenData}
-use Rattle.load.specs.declared.LoadChoice.{LoadChoice}
-use Rattle.load.specs.declared.LoadChoice.the-variants.{Refused, Nothing, Chosen}
+use Rattle.answers.specs.declared.choice.LoadChoice.{LoadChoice}
+use Rattle.answers.specs.declared.choice.LoadChoice.the-variants.{Refused, Nothing, Chosen}
 
 -- c is the choice that is matched, r the part that a call gave
 module _ (s : List ℕ) (c : LoadChoice) where

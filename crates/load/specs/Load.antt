@@ -17,8 +17,8 @@ use Rattle.coverage.specs.Covers.{covers}
 use Rattle.view.specs.View.{dataPart}
 use Rattle.blocks.specs.Blocks.{fromBlock, blockCount}
 use Rattle.store.specs.Scan.{first, storeOk}
-use Rattle.load.specs.declared.LoadChoice.{LoadChoice}
-use Rattle.load.specs.declared.LoadChoice.the-variants.{Refused, Nothing, Chosen}
+use Rattle.answers.specs.declared.choice.LoadChoice.{LoadChoice}
+use Rattle.answers.specs.declared.choice.LoadChoice.the-variants.{Refused, Nothing, Chosen}
 
 unfoldable pub holds : List ℕ → ℕ → ℕ → ℕ → Bool
 holds s x p b = first s b && covers (fromBlock s b) x p

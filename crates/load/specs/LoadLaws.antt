@@ -23,8 +23,8 @@ use Rattle.store.specs.ValidLaws.{store-valid}
 use Rattle.store.specs.DirectoryLaws.{startOf, listing}
 use Rattle.store.specs.declared.directory.Directory.{Directory}
 use Rattle.load.specs.Load.{holds, holder, chosenAt, found, loadChoice}
-use Rattle.load.specs.declared.LoadChoice.{LoadChoice}
-use Rattle.load.specs.declared.LoadChoice.the-variants.{Refused, Nothing, Chosen}
+use Rattle.answers.specs.declared.choice.LoadChoice.{LoadChoice}
+use Rattle.answers.specs.declared.choice.LoadChoice.the-variants.{Refused, Nothing, Chosen}
 
 module _ (s : List ℕ) (ok : storeOk s ≡ true) (x p : ℕ) where
   -- two updates of a valid store that cover the processor are one

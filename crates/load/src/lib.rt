@@ -3,19 +3,12 @@ ghost use mathlib.Core.Path.{_≡_};
 ghost use mathlib.Core.Bool.{true};
 ghost use Rattle.store.specs.Scan.{directory};
 ghost use Rattle.load.specs.Load.{found, loadChoice, chosenData};
+use answers::choice::LoadChoice;
 use coverage::covers;
 use header::fields;
 use store::directory;
 use store::directory::Directory;
 use view::parts;
-
-pub enum LoadChoice {
-    // the codes
-    Refused { ah: u8, al: u8 },
-    Nothing,
-    // the update's first block and its revision
-    Chosen { start: u32, revision: u32 },
-}
 
 // The stored update that covers the processor, by the directory of the store.
 fn find(store: &[u8], d: Directory, signature: u32, platform: u32) -> LoadChoice

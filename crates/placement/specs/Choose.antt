@@ -6,7 +6,7 @@
 --   lost       how many are lost
 --   torn       update i bars every start
 --   choose     the start of least loss, the lowest on a tie, among those from which the run ends at n or before
-use Prim.Native.Nat.{ℕ, suc, _+_, _-_}
+use Prim.Native.Nat.{ℕ, suc, _-_}
 use mathlib.Core.Bool.{Bool, not, _&&_, _||_}
 use Rattle.laws.specs.Below.{anyBelow}
 use Rattle.laws.specs.Count.{countBelow}

@@ -4,6 +4,7 @@
 --   Laid     they lie as a store's updates do
 use Prim.Native.Nat.{ℕ, _+_, _<_, _≤_}
 use mathlib.Core.Bool.{Bool}
+use Rattle.laws.specs.Span.{Spans}
 
 -- Stored updates, numbered from 0 in the order of their starts, by start, size in blocks and two marks against a candidate.
 pub record Held : Type 0 where
@@ -16,9 +17,8 @@ pub record Held : Type 0 where
   pub keeps : ℕ → Bool
 
 -- block c is one of update i's
-pub record Holds (h : Held) (i c : ℕ) : Type 0 where
-  pub from : h .start i ≤ c
-  pub upto : c < h .start i + h .size i
+abbrev pub Holds : Held → ℕ → ℕ → Type 0
+Holds h i c = Spans (h .start i) (h .size i) c
 
 -- none is empty, they lie in order and apart, the last ends at block n or before
 pub record Laid (n : ℕ) (h : Held) : Type 0 where

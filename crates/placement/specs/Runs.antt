@@ -8,13 +8,14 @@
 --   emptied-goes    those that go are those that share and those that are lost
 use Prim.Native.Nat.{ℕ, _+_, _<_, _≤_, max}
 use mathlib.Core.Path.{_≡_, refl, sym, ap, _∙_}
-use mathlib.Core.Logic.{_⊎_, inl, inr, ⊎-elim}
+use mathlib.Core.Logic.{_⊎_, inl, inr, ⊎-elim, _↔_}
 use mathlib.Core.Bool.{Bool, true, false, _&&_, _||_, true≢false, or-true}
 use native.Mathlib.Omega.{arith}
-use lib.Dec.{ltb, leb}
-use borrow.Author.Tests.{ltb-true, ltb-false, leb-true, lt-ltb, le-leb}
+use lib.Dec.{ltb}
+use borrow.Author.Tests.{ltb-true, ltb-false, lt-ltb}
 use Rattle.laws.specs.Bools.{and-parts, and-made, no-true}
 use Rattle.laws.specs.Below.{anyBelow, any-at, any-fails, any-false}
+use Rattle.laws.specs.Span.{spans, spans-law}
 use Rattle.laws.specs.Count.{countBelow, either, second, count-mono, count-split}
 use Rattle.placement.specs.Held.{Held, Holds, Laid}
 use Rattle.placement.specs.Legal.{Legal, emptied}
@@ -73,18 +74,11 @@ module _ (n k : ℕ) (h : Held) (some : 1 ≤ k) (laid : Laid n h) (s : ℕ) (e 
 
 -- update i holds block c, as a Bool
 unfoldable holding : Held → ℕ → ℕ → Bool
-holding h c i = leb (h .start i) c && ltb c (h .start i + h .size i)
+holding h c i = spans (h .start i) (h .size i) c
 
-module _ (h : Held) (c i : ℕ) where
-  holding-holds : holding h c i ≡ true → Holds h i c
-  unfolding holding
-  holding-holds t =
-      let x = and-parts (leb (h .start i) c) (ltb c (h .start i + h .size i)) t in
-      record { from = leb-true _ _ (x .0); upto = ltb-true _ _ (x .1) }
-
-  holds-holding : Holds h i c → holding h c i ≡ true
-  unfolding holding
-  holds-holding x = and-made (le-leb _ _ (x .from)) (lt-ltb _ _ (x .upto))
+holding-law : (h : Held) (c i : ℕ) → (holding h c i ≡ true) ↔ Holds h i c
+unfolding holding
+holding-law h c i = spans-law (h .start i) (h .size i) c
 
 module _ (n k : ℕ) (h : Held) (s : ℕ) where
   met-goes : (c : ℕ) → s ≤ c → c < s + k → (i : ℕ) → Holds h i c → goes h k s i ≡ true
@@ -99,9 +93,9 @@ module _ (n k : ℕ) (h : Held) (s : ℕ) where
           → ((i : ℕ) → i < h .count → Holds h i c → ⊥) ⊎ ((i : ℕ) × (i < h .count) × Holds h i c × (goes h k s i ≡ true))
       go true e =
           let w = any-at (holding h c) (h .count) e in
-          let x = holding-holds h c (w .0) (w .2) in
+          let x = holding-law h c (w .0) .0 (w .2) in
           inr (w .0, w .1, x, met-goes c p q (w .0) x)
-      go false e = inl (λ i l x. true≢false (sym (holds-holding h c i x) ∙ any-fails (holding h c) (h .count) i e l))
+      go false e = inl (λ i l x. true≢false (sym (holding-law h c i .1 x) ∙ any-fails (holding h c) (h .count) i e l))
 
   pub open-legal : s + k ≤ n → barred h k s ≡ false → Legal n k h s (goes h k s)
   unfolding barred bars goes

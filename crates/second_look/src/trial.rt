@@ -19,8 +19,22 @@ pub struct Seen {
 fn call(store: &mut [u8], n: usize, candidate: &[u8]) -> Answer {
     let signatures: [u32; 7] = [0x100, 0x200, 0x201, 0x202, 0x203, 0x100, 0x100];
     let platforms: [u8; 7] = [7, 0, 0, 0, 0, 0, 2];
+    let mut destination = [0u8; 1];
     if n <= store.len() {
-        write::write::write(&mut store[..n], &signatures, &platforms, candidate, 9)
+        let reply = dispatch::call(
+            0xD042,
+            1,
+            0,
+            0,
+            false,
+            &mut store[..n],
+            &signatures,
+            &platforms,
+            candidate,
+            9,
+            &mut destination,
+        );
+        reply.answer
     } else {
         answer::refuse(0, 0)
     }

@@ -12,14 +12,14 @@ use mathlib.Core.Logic.{⊎-elim}
 use native.Mathlib.Nat.{eq-or-lt-of-le}
 use native.Mathlib.Omega.{arith}
 use lib.ListN.{length, getD}
-use lib.Dec.{leb, ltb}
-use borrow.Author.Tests.{leb-true, le-leb, ltb-true, ltb-false, lt-ltb, eq-eqb, ne-eqb}
-use Rattle.laws.specs.Bools.{and-parts, and-made}
+use lib.Dec.{ltb}
+use borrow.Author.Tests.{ltb-true, ltb-false, eq-eqb, ne-eqb}
 use Rattle.laws.specs.Below.{all-at}
+use Rattle.laws.specs.Span.{spans-law}
 use Rattle.laws.specs.First.{firstBelow, First, first-is}
 use Rattle.blocks.specs.Blocks.{blockCount}
 use Rattle.store.specs.Scan.{slotAt, sizeAt, isBad, begins, first, sound, startsTo, sizesTo, pad, listed, storeOk, directory}
-use Rattle.store.specs.Kind.{kindOf, kindAt, owns, ownsAt, kindIf, kindBy, kindIn}
+use Rattle.store.specs.Kind.{kindOf, kindAt, ownsAt, kindIf, kindBy, kindIn}
 use Rattle.store.specs.Valid.{Valid, Owned}
 use Rattle.store.specs.SlotLaws.{ends-inside}
 use Rattle.store.specs.BlockLaws.{listed-first, first-listed, starts-increase, sizes-listed, sizes-long, later-blocks}
@@ -79,16 +79,15 @@ module _ (s : List ℕ) (ok : storeOk s ≡ true) where
     entries = listing d e
 
     owned : (i : ℕ) → i < d .count → ownsAt d b i ≡ true → Owned s (first s) (startOf d i) b
-    unfolding ownsAt owns
+    unfolding ownsAt
     owned i m h =
-        let a = and-parts (leb (startOf d i) b) (ltb b (startOf d i + sizeOf d i)) h in
-        record { at = entries .begin i m; from = leb-true _ _ (a .0); upto = rw (← entries .sized i m) (ltb-true _ _ (a .1)) }
+        let a = spans-law (startOf d i) (sizeOf d i) b .0 h in
+        record { at = entries .begin i m; from = a .from; upto = rw (← entries .sized i m) (a .upto) }
 
     owning : (i a : ℕ) → i < d .count → startOf d i ≡ a → Owned s (first s) a b → ownsAt d b i ≡ true
-    unfolding ownsAt owns
+    unfolding ownsAt
     owning i a m q o =
-        and-made (le-leb (startOf d i) b (omega (arith, o .from)))
-        (lt-ltb b (startOf d i + sizeOf d i) (rw (entries .sized i m) (rw q (o .upto))))
+        spans-law (startOf d i) (sizeOf d i) b .1 (record { from = omega (arith, o .from); upto = rw (entries .sized i m) (rw q (o .upto)) })
 
     -- an owned block is the first of its owner or a later one
     kind-owned : (a : ℕ) → Owned s (first s) a b → kindIf a (sizeAt s a) b ≡ kindAt s b

@@ -1,18 +1,19 @@
 -- The kind of a block: unused, the first of an update, or a later one of one (document 01, the calls' read and its code 9A).
 --   kindOf, kindAt    by what the reading finds at the block; the kind of block b of a store
---   owns, ownsAt      an update, and entry i of the directory, has block b among its blocks
+--   ownsAt            entry i of the directory has block b among its blocks
 --   kindIf, kindBy    the kind of block b by an update that has it, and by entry i
 --   kindIn            the kind of block b by the directory
 --   finding           the scan of the entries, as `search` takes it
 use Prim.Native.Nat.{ℕ, _+_, _<_, _≤_}
 use mathlib.Core.Path.{_≡_, sym, _∙_}
-use mathlib.Core.Bool.{Bool, true, false, cond, _&&_}
+use mathlib.Core.Bool.{Bool, true, false, cond}
 use mathlib.Core.List.{List}
 use lib.ListN.{getD}
 use native.Mathlib.Omega.{arith}
-use lib.Dec.{leb, ltb, eqb}
+use lib.Dec.{ltb, eqb}
 use borrow.Author.Tests.{lt-ltb, le-ltb}
 use Rattle.laws.specs.Below.{anyBelow, any-none, any-more}
+use Rattle.laws.specs.Span.{spans}
 use Rattle.laws.specs.First.{firstBelow, first-found, first-none}
 use Rattle.store.specs.Scan.{slotAt, begins}
 use Rattle.blocks.specs.declared.slot.Slot.{Slot}
@@ -32,11 +33,8 @@ kindOf false x = Later
 unfoldable pub kindAt : List ℕ → ℕ → Kind
 kindAt s b = kindOf (begins s b) (slotAt s b)
 
-unfoldable pub owns : ℕ → ℕ → ℕ → Bool
-owns start size b = leb start b && ltb b (start + size)
-
 unfoldable pub ownsAt : Directory → ℕ → ℕ → Bool
-ownsAt d b i = owns (getD (d .starts) i 0) (getD (d .sizes) i 0) b
+ownsAt d b i = spans (getD (d .starts) i 0) (getD (d .sizes) i 0) b
 
 -- of an update that has block b
 unfoldable pub kindIf : ℕ → ℕ → ℕ → Kind
@@ -52,12 +50,12 @@ kindIn d b = kindBy d b (firstBelow (d .count) (ownsAt d b))
 -- the scan of the entries: r is what a call answered of entry i, and z the kind that another gave
 module _ (d : Directory) (b i : ℕ) (none : anyBelow i (ownsAt d b) ≡ false) where
   pub kind-found : (start size : ℕ) (r : Bool) (z : Kind) → start ≡ getD (d .starts) i 0 → size ≡ getD (d .sizes) i 0 → i < d .count
-      → r ≡ owns start size b → r ≡ true → z ≡ kindIf start size b → z ≡ kindIn d b
+      → r ≡ spans start size b → r ≡ true → z ≡ kindIf start size b → z ≡ kindIn d b
   unfolding kindIn kindBy ownsAt
   kind-found start size r z e f l h k q =
       q ∙ rw (first-found (d .count) i (ownsAt d b) none l (rw (← e, ← f) (sym h ∙ k)), lt-ltb i (d .count) l, e, f)
 
-  pub kind-next : (start size : ℕ) (r : Bool) → start ≡ getD (d .starts) i 0 → size ≡ getD (d .sizes) i 0 → r ≡ owns start size b → r ≡ false → anyBelow (i + 1) (ownsAt d b) ≡ false
+  pub kind-next : (start size : ℕ) (r : Bool) → start ≡ getD (d .starts) i 0 → size ≡ getD (d .sizes) i 0 → r ≡ spans start size b → r ≡ false → anyBelow (i + 1) (ownsAt d b) ≡ false
   unfolding ownsAt
   kind-next start size r e f h k = any-more (ownsAt d b) i none (rw (← e, ← f) (sym h ∙ k))
 

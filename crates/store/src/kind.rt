@@ -1,7 +1,8 @@
 // The kind of a block, by the directory.
 ghost use mathlib.Core.Path.{_≡_};
 ghost use Prim.Native.Nat.{_≤_};
-ghost use Rattle.store.specs.Kind.{owns, kindIf, kindIn};
+ghost use Rattle.laws.specs.Span.{spans};
+ghost use Rattle.store.specs.Kind.{kindIf, kindIn};
 use crate::directory::Directory;
 
 pub enum Kind {
@@ -14,7 +15,7 @@ pub enum Kind {
 }
 
 fn owns(start: u32, size: u32, b: u32) -> bool
-    ensures { λ r. ⌜ r ≡ owns start size b ⌝ }
+    ensures { λ r. ⌜ r ≡ spans start size b ⌝ }
 {
     if start <= b {
         (b as usize) < start as usize + size as usize

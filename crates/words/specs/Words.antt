@@ -18,8 +18,8 @@ use Rattle.blocks.specs.Blocks.{fromBlock}
 use Rattle.answers.specs.Answers.{ahOf, alOf, carryOf, caseOf, numbersOf}
 use Rattle.answers.specs.declared.answer.Answer.{Answer}
 use Rattle.answers.specs.declared.answer.Reply.{Reply}
-use Rattle.load.specs.declared.LoadChoice.{LoadChoice}
-use Rattle.load.specs.declared.LoadChoice.the-variants.{Refused, Nothing, Chosen}
+use Rattle.answers.specs.declared.choice.LoadChoice.{LoadChoice}
+use Rattle.answers.specs.declared.choice.LoadChoice.the-variants.{Refused, Nothing, Chosen}
 
 abbrev pub flagWord : Bool → ℕ
 flagWord b = cond b 1 0

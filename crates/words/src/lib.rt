@@ -6,8 +6,8 @@ ghost use Rattle.answers.specs.Answers.{refusal};
 ghost use Rattle.words.specs.Words.{flagWord, axOf, answerWords, loadAx, loadWords};
 ghost use Rattle.words.specs.WordLaws.{rowOf, StartBelow32};
 use answers::answer::Answer;
+use answers::choice::LoadChoice;
 use header::sizes;
-use load::LoadChoice;
 
 // 1 for true, 0 for false.
 fn flag_word(x: bool) -> u32

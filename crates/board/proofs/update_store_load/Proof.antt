@@ -2,7 +2,7 @@
 use mathlib.Core.Path.{ap, _∙_}
 use borrow.Author.Needs.{needs}
 use Rattle.words.specs.Words.{loadAx, loadWords}
-use Rattle.words.specs.WordLaws.{load-inside}
+use Rattle.board.specs.LoadWords.{load-inside}
 use Rattle.board.proofs.update_store_load.Statement.{statement}
 use Rattle.board.proofs.update_store_load.Tie as tie
 

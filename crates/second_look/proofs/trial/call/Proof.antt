@@ -13,6 +13,7 @@ call-spec =
     (λ c. simp length-take (omega arith))
     (λ c. search needs)
     (λ c. search needs)
+    (λ c. search needs)
     (λ c κs. search needs)
     (λ c κs. search needs)
     (λ c. search needs)

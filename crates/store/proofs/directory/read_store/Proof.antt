@@ -1,10 +1,11 @@
 -- `store::directory::read_store` meets its contract, by the four ways to the directory.
-use mathlib.Core.Path.{_∙_, sym}
+use mathlib.Core.Path.{_∙_, sym, ap}
 use Prim.Native.Nat.{_/_, _≤_}
 use native.Mathlib.Omega.{arith}
 use lib.ListN.{length}
 use Rattle.blocks.specs.Blocks.{length-few}
 use Rattle.store.specs.StoreLaws.{scanned-few, store-bad, store-clash, store-good, store-length}
+use Rattle.store.specs.declared.directory.Directory.{Directory}
 use borrow.Author.Needs.{needs}
 use Rattle.store.proofs.directory.read_store.Statement.{statement}
 use Rattle.store.proofs.directory.read_store.Tie as tie
@@ -16,7 +17,7 @@ clash-requires : tie.Need-clash-requires
 clash-requires c κs = let d = c .before .before in
     let n = d .before .before .before .before .args .s .now in
     let k : length n / 2048 ≤ 32 = length-few _ (sym (d .before .before .length-ok .ensures) ∙ d .before .if1 .taken) in
-    rw (d .scan .ensures) (omega (arith, scanned-few n (length n / 2048)))
+    omega (arith, scanned-few n (length n / 2048), ap (λ (x : Directory). x .count) (d .scan .ensures))
 
 returns : tie.Need-returns
 returns c = c .bad-store .ensures ∙ (let d = c .before .before .before .before .before in store-clash _ (d .scan .result) (d .scan .ensures) (sym (d .before .before .length-ok .ensures) ∙ d .before .if1 .taken) (c .before .before .before .before .if2 .taken) (sym (c .before .before .clash .ensures) ∙ c .before .if3 .taken))

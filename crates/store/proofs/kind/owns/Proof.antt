@@ -1,12 +1,12 @@
 -- `store::kind::owns` meets its contract: both ends.
 use borrow.Author.Needs.{needs}
 use Rattle.laws.specs.Tests.{cases}
-use Rattle.store.specs.Kind.{owns}
+use Rattle.laws.specs.Span.{spans}
 use Rattle.store.proofs.kind.owns.Statement.{statement}
 use Rattle.store.proofs.kind.owns.Tie as tie
 
 pub owns-spec : {M : Type 1} → statement M
-unfolding owns
+unfolding spans
 owns-spec =
     tie.close
     (tie.spec
