@@ -5,7 +5,7 @@ ghost use Rattle.dispatch.specs.Call.{callReply, callStore, callDestination};
 ghost use Rattle.load.specs.Load.{loadChoice};
 ghost use Rattle.words.specs.Words.{axOf, callWords, loadAx, loadWords};
 
-// The four D042h calls. An unknown function is answered at once.
+// The four D042h calls. Function and sub-function are judged first, and an unknown one is answered at once.
 #[no_mangle]
 pub extern "C" fn update_store_call(
     function: u32,
@@ -27,6 +27,10 @@ pub extern "C" fn update_store_call(
     ensures copies { λ r. ⌜ now (destination .exit) ≡ callDestination function «sub_function» block (now (store .entry)) (now (destination .entry)) ⌝ }
 {
     if function != 0xD042 {
+        words::unknown_words(loading, answer);
+        return 0x8600;
+    }
+    if sub_function > 3 {
         words::unknown_words(loading, answer);
         return 0x8600;
     }

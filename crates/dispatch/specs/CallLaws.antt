@@ -1,10 +1,12 @@
 -- The cases of a call, each from what the tests and the called function say.
 --   Called                            the reply, the store and the destination afterwards are those of the definitions
 --   other-function .. other-sub       so they are: an unknown function, the four sub-functions, an unknown sub-function
-use Prim.Native.Nat.{ℕ}
+--   above-sub                         a sub-function above 3
+use Prim.Native.Nat.{ℕ, _<_}
 use mathlib.Core.Path.{_≡_, refl}
 use mathlib.Core.Bool.{Bool}
 use mathlib.Core.List.{List}
+use native.Mathlib.Omega.{arith}
 use lib.ListN.{length}
 use borrow.Author.Tests.{eq-eqb, ne-eqb}
 use Rattle.laws.specs.Unless.{unless}
@@ -46,3 +48,6 @@ module _ (function sub task block : ℕ) (loading : Bool) (store signatures plat
     pub other-sub : (r : Reply) → (sub ≡ 0 → ⊥) → (sub ≡ 1 → ⊥) → (sub ≡ 2 → ⊥) → (sub ≡ 3 → ⊥) → r ≡ unknown loading → Called r store destination
     unfolding callReply callStore callDestination unless
     other-sub r n0 n1 n2 n3 e = rw (eq-eqb function 0xD042 f, ne-eqb sub 0 n0, ne-eqb sub 1 n1, ne-eqb sub 2 n2, ne-eqb sub 3 n3) (e, (refl, refl))
+
+    pub above-sub : (r : Reply) → 3 < sub → r ≡ unknown loading → Called r store destination
+    above-sub r l e = other-sub r (λ h. omega (arith, h)) (λ h. omega (arith, h)) (λ h. omega (arith, h)) (λ h. omega (arith, h)) e
