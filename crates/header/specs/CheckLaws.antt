@@ -1,12 +1,14 @@
 -- Checks 2 and 3 as the code takes them.
---   judging    a return at each test, as `search` takes it
+--   judging                      a return at each test, as `search` takes it
+--   header-parts, header-made    what check 2 says
 use Prim.Native.Nat.{ℕ, _<_, _≤_}
 use mathlib.Core.Path.{_≡_, sym, _∙_}
-use mathlib.Core.Bool.{Bool, true, false, and-false}
+use mathlib.Core.Bool.{Bool, true, false, _&&_, and-false}
 use mathlib.Core.List.{List}
 use lib.ListN.{length}
 use lib.Dec.{leb, eqb}
-use borrow.Author.Tests.{eq-eqb, ne-eqb, le-leb, lt-leb}
+use borrow.Author.Tests.{eq-eqb, ne-eqb, le-leb, lt-leb, leb-true, eqb-true}
+use Rattle.laws.specs.Bools.{and-parts}
 use Rattle.header.specs.Fields.{version, loaderVersion, dataSize, totalSize}
 use Rattle.header.specs.Sizes.{sizesOk, tableCount}
 use Rattle.header.specs.Checks.{headerOk, sizesFit}
@@ -36,3 +38,14 @@ module _ (s : List ℕ) where
     sizes-yes k = rw (← e, ← f, ← g, ← h, k)
 
 pub ruleset judging = (header-short, header-version, header-loader, sizes-no, sizes-yes)
+
+pub header-parts : (s : List ℕ) → headerOk s ≡ true → (48 ≤ length s) × (version s ≡ 1) × (loaderVersion s ≡ 1)
+unfolding headerOk
+header-parts s h =
+    let a = and-parts (leb 48 (length s) && eqb (version s) 1) (eqb (loaderVersion s) 1) h in
+    let b = and-parts (leb 48 (length s)) (eqb (version s) 1) (a .0) in
+    (leb-true 48 (length s) (b .0), eqb-true (version s) 1 (b .1), eqb-true (loaderVersion s) 1 (a .1))
+
+pub header-made : (s : List ℕ) → 48 ≤ length s → version s ≡ 1 → loaderVersion s ≡ 1 → headerOk s ≡ true
+unfolding headerOk
+header-made s l v w = rw (le-leb 48 (length s) l, v, w)

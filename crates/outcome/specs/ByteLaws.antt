@@ -14,9 +14,8 @@ use mathlib.Core.Logic.{_⊎_, inl, inr}
 use native.Mathlib.Nat.{not-suc-le-zero, add-zero}
 use native.Mathlib.Omega.{arith}
 use lib.ListN.{length, getD}
-use lib.Dec.{leb, ltb}
-use borrow.Author.Tests.{leb-true, ltb-true, le-leb, lt-ltb}
-use Rattle.laws.specs.Bools.{and-parts, and-made, no-true}
+use Rattle.laws.specs.Span.{spans, spans-law}
+use Rattle.laws.specs.Bools.{and-parts, no-true}
 use Rattle.laws.specs.Below.{any-at, any-stop, any-cong}
 use Rattle.laws.specs.Unless.{unless}
 use Rattle.header.specs.Sizes.{blocksOf}
@@ -40,40 +39,38 @@ getD-tabulate n f i l = tabulate-from n 0 f i l ∙ ap f (let e : 0 + i ≡ i = 
 
 module _ (s : List ℕ) where
   -- the update at b, of whatever set, has block c
-  owner : (c b : ℕ) → first s b && leb b c && ltb c (b + sizeAt s b) ≡ true → Owned s (first s) b c
+  owner : (c b : ℕ) → first s b && spans b (sizeAt s b) c ≡ true → Owned s (first s) b c
   owner c b h =
-      let x = and-parts (first s b && leb b c) (ltb c (b + sizeAt s b)) h in
-      let y = and-parts (first s b) (leb b c) (x .0) in
-      record { at = y .0; from = leb-true b c (y .1); upto = ltb-true c (b + sizeAt s b) (x .1) }
+      let x = and-parts (first s b) (spans b (sizeAt s b) c) h in
+      let y = spans-law b (sizeAt s b) c .0 (x .1) in
+      record { at = x .0; from = y .from; upto = y .upto }
 
   pub emptied-at : (e : ℕ → Bool) (c : ℕ) → emptiedAt s e c ≡ true → (b : ℕ) × (e b ≡ true) × Owned s (first s) b c
   unfolding emptiedAt ownedBy
   emptied-at e c h =
       let w = any-at (ownedBy s e c) (suc c) h in
-      let x = and-parts (e (w .0)) (first s (w .0) && leb (w .0) c && ltb c (w .0 + sizeAt s (w .0))) (w .2) in
+      let x = and-parts (e (w .0)) (first s (w .0) && spans (w .0) (sizeAt s (w .0)) c) (w .2) in
       (w .0, x .0, owner c (w .0) (x .1))
 
   pub at-emptied : (e : ℕ → Bool) (c b : ℕ) → e b ≡ true → Owned s (first s) b c → emptiedAt s e c ≡ true
   unfolding emptiedAt ownedBy
   at-emptied e c b h o =
-      any-stop (ownedBy s e c) (suc c) b (omega (arith, o .from)) (rw (h, o .at, le-leb b c (o .from), lt-ltb c (b + sizeAt s b) (o .upto)))
+      any-stop (ownedBy s e c) (suc c) b (omega (arith, o .from)) (rw (h, o .at) (spans-law b (sizeAt s b) c .1 (record { from = o .from; upto = o .upto })))
 
   pub emptied-same : (e f : ℕ → Bool) (c : ℕ) → ((b : ℕ) → Owned s (first s) b c → e b ≡ f b) → emptiedAt s e c ≡ emptiedAt s f c
   unfolding emptiedAt ownedBy
-  emptied-same e f c h = any-cong (ownedBy s e c) (ownedBy s f c) (suc c) (λ k l. go k (first s k && leb k c && ltb c (k + sizeAt s k)) refl)
+  emptied-same e f c h = any-cong (ownedBy s e c) (ownedBy s f c) (suc c) (λ k l. go k (first s k && spans k (sizeAt s k) c) refl)
     where
-      go : (k : ℕ) (t : Bool) → first s k && leb k c && ltb c (k + sizeAt s k) ≡ t → e k && t ≡ f k && t
+      go : (k : ℕ) (t : Bool) → first s k && spans k (sizeAt s k) c ≡ t → e k && t ≡ f k && t
       go k true q = rw (h k (owner c k q))
       go k false q = and-false (e k) ∙ sym (and-false (f k))
 
 module _ (start k c : ℕ) where
   pub run-at : inRun start k c ≡ true → (start ≤ c) × (c < start + k)
-  unfolding inRun
-  run-at h = let x = and-parts (leb start c) (ltb c (start + k)) h in (leb-true start c (x .0), ltb-true c (start + k) (x .1))
+  run-at h = let x = spans-law start k c .0 h in (x .from, x .upto)
 
   pub at-run : start ≤ c → c < start + k → inRun start k c ≡ true
-  unfolding inRun
-  at-run l m = and-made (le-leb start c l) (lt-ltb c (start + k) m)
+  at-run l m = spans-law start k c .1 (record { from = l; upto = m })
 
   pub not-run : (c < start) ⊎ (start + k ≤ c) → inRun start k c ≡ false
   not-run (inl l) = no-true (inRun start k c) (λ h. omega (arith, run-at h .0))

@@ -8,12 +8,13 @@
 --   clearedByte      byte i with the updates of e emptied
 --   outcomeByte      byte i of the outcome: the run's in the run, elsewhere the cleared one
 --   outcomeBytes     the whole store, byte by byte
-use Prim.Native.Nat.{ℕ, zero, suc, _+_, _*_, _-_, _/_}
+use Prim.Native.Nat.{ℕ, zero, suc, _*_, _-_, _/_}
 use mathlib.Core.Bool.{Bool, _&&_}
 use mathlib.Core.List.{List, [], _∷_}
 use lib.ListN.{length, getD}
-use lib.Dec.{leb, ltb}
+use lib.Dec.{ltb}
 use Rattle.laws.specs.Below.{anyBelow}
+use Rattle.laws.specs.Span.{spans}
 use Rattle.laws.specs.Unless.{unless}
 use Rattle.header.specs.Sizes.{blocksOf}
 use Rattle.store.specs.Scan.{first, sizeAt}
@@ -24,13 +25,13 @@ tabulate (suc n) a f = f a ∷ tabulate n (suc a) f
 
 -- block c belongs to the update that begins at block b, which is of the set e
 unfoldable pub ownedBy : List ℕ → (ℕ → Bool) → ℕ → ℕ → Bool
-ownedBy s e c b = e b && (first s b && leb b c && ltb c (b + sizeAt s b))
+ownedBy s e c b = e b && (first s b && spans b (sizeAt s b) c)
 
 unfoldable pub emptiedAt : List ℕ → (ℕ → Bool) → ℕ → Bool
 emptiedAt s e c = anyBelow (suc c) (ownedBy s e c)
 
-unfoldable pub inRun : ℕ → ℕ → ℕ → Bool
-inRun start k c = leb start c && ltb c (start + k)
+abbrev pub inRun : ℕ → ℕ → ℕ → Bool
+inRun start k c = spans start k c
 
 -- the candidate's t bytes, FFh behind them
 unfoldable pub runByte : ℕ → List ℕ → ℕ → ℕ

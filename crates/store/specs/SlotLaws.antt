@@ -8,20 +8,19 @@
 --   ends-inside             an update that begins at block b of n ends at n or before
 use Prim.Native.Nat.{ℕ, _+_, _*_, _-_, _<_, _≤_}
 use mathlib.Core.Path.{_≡_, refl, sym, _∙_}
-use mathlib.Core.Bool.{Bool, true, false, _&&_, true≢false}
+use mathlib.Core.Bool.{Bool, true, false, true≢false}
 use mathlib.Core.List.{List}
 use native.Mathlib.Omega.{arith}
 use lib.ListN.{length, getD, length-drop}
-use lib.Dec.{leb, eqb}
+use lib.Dec.{leb}
 use borrow.Author.Tests.{leb-true, le-leb, eqb-true}
 use Rattle.laws.specs.Bools.{and-parts, and-made, no-true}
 use Rattle.laws.specs.Below.{all-at}
 use Rattle.laws.specs.Unless.{unless}
 use Rattle.laws.specs.Same.{Same, same-less}
 use Rattle.dwords.specs.Dword.{dword}
-use Rattle.header.specs.Fields.{version, loaderVersion}
 use Rattle.header.specs.Sizes.{blocksOf}
-use Rattle.header.specs.Checks.{headerOk}
+use Rattle.header.specs.CheckLaws.{header-parts}
 use Rattle.update.specs.Verdict.{verdict}
 use Rattle.update.specs.VerdictLaws.{judged, good-size}
 use Rattle.update.specs.Local.{verdict-local}
@@ -90,11 +89,8 @@ not-unused s e =
     let b = eqb-true (getD s 0 0) 255 (all-at (isFF s 0) 2048 0 f (omega arith)) in omega arith)
 
 pub update-made : (s : List ℕ) (t d n k : ℕ) → verdict s ≡ Good t d n k → fits s t ≡ true → slotOf s ≡ Update k
-unfolding slotOf updateSlot unless headerOk
-update-made s t d n k g f =
-    let h = judged s t d n k g .header in
-    let v = eqb-true (version s) 1 (and-parts (leb 48 (length s)) (eqb (version s) 1) (and-parts (leb 48 (length s) && eqb (version s) 1) (eqb (loaderVersion s) 1) h .0) .1) in
-    rw (not-unused s v, g, f)
+unfolding slotOf updateSlot unless
+update-made s t d n k g f = rw (not-unused s (header-parts s (judged s t d n k g .header) .1), g, f)
 
 pub filled-unused : (s : List ℕ) → 2048 ≤ length s → filled s 0 2048 ≡ true → slotOf s ≡ Unused
 unfolding slotOf unless unused

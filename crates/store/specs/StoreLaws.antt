@@ -2,6 +2,7 @@
 --   pad-at           an array's first elements are the list's
 --   scanned-few      the reading lists at most n updates
 --   store-bad .. store-length    the four ways to the directory
+--   store-parts      the three tests of a store
 --   directory-ok, directory-good    the directory says whether the store is valid
 --   directory-listed    of a valid store it is what its blocks list
 --   directory-few    it lists at most 32 updates
@@ -75,6 +76,14 @@ pub store-length : (s : List ℕ) → lengthOk (length s) ≡ false → badStore
 unfolding directory storeOk
 store-length s l = rw l
 
+-- the three tests of a store
+pub store-parts : (s : List ℕ) → storeOk s ≡ true → (lengthOk (length s) ≡ true) × (allBelow (blockCount s) (sound s) ≡ true) × (apart s (startsTo s (blockCount s)) ≡ true)
+unfolding storeOk
+store-parts s h =
+    let x = and-parts (lengthOk (length s) && allBelow (blockCount s) (sound s)) (apart s (startsTo s (blockCount s))) h in
+    let y = and-parts (lengthOk (length s)) (allBelow (blockCount s) (sound s)) (x .0) in
+    (y .0, y .1, x .1)
+
 -- what the directory says of itself
 module _ (s : List ℕ) (d : Directory) (e : d ≡ directory s) where
   pub directory-ok : d .ok ≡ storeOk s
@@ -93,11 +102,9 @@ module _ (s : List ℕ) (d : Directory) (e : d ≡ directory s) where
   directory-listed h = e ∙ rw h
 
   pub directory-few : d .count ≤ 32
-  unfolding directory listed badStore storeOk
+  unfolding directory listed badStore
   directory-few = rw e (go (storeOk s) refl)
     where
       go : (t : Bool) → storeOk s ≡ t → cond t (listed s (blockCount s)) badStore .count ≤ 32
-      go true q =
-          let l = and-parts (lengthOk (length s)) (allBelow (blockCount s) (sound s)) (and-parts (lengthOk (length s) && allBelow (blockCount s) (sound s)) (apart s (startsTo s (blockCount s))) q .0) .0 in
-          omega (arith, few-starts s (blockCount s), length-parts s l .2)
+      go true q = omega (arith, few-starts s (blockCount s), length-parts s (store-parts s q .0) .2)
       go false q = omega arith

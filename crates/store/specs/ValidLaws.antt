@@ -6,22 +6,22 @@
 --   valid-apart     no two stored updates share, as the Bool that computes
 use Prim.Native.Nat.{ℕ, _%_, _/_, _<_, _≤_}
 use mathlib.Core.Path.{_≡_, sym, ap, _∙_}
-use mathlib.Core.Bool.{Bool, true, false, not, _&&_, true≢false}
+use mathlib.Core.Bool.{Bool, true, false, true≢false}
 use mathlib.Core.List.{List}
 use mathlib.Core.Logic.{⊎-elim, _↔_}
 use native.Mathlib.Nat.{eq-or-lt-of-le}
 use native.Mathlib.Omega.{arith}
 use lib.ListN.{length, getD}
 use borrow.Author.Tests.{le-leb, not-true}
-use Rattle.laws.specs.Bools.{and-parts, no-true}
-use Rattle.laws.specs.Below.{allBelow, any-fails, any-false}
+use Rattle.laws.specs.Bools.{no-true}
+use Rattle.laws.specs.Below.{any-fails, any-false}
 use Rattle.laws.specs.Orders.{le-or-lt}
 use Rattle.sharing.specs.Shares.{shares}
 use Rattle.sharing.specs.ShareLaws.{shares-law}
 use Rattle.blocks.specs.Blocks.{fromBlock, blockCount, lengthOk, length-parts}
-use Rattle.store.specs.Scan.{first, sound, startsTo, clashAt, clashRow, clash, apart, storeOk, directory}
+use Rattle.store.specs.Scan.{first, startsTo, clashAt, clashRow, clash, apart, storeOk, directory}
 use Rattle.store.specs.Valid.{Valid, ValidStore}
-use Rattle.store.specs.StoreLaws.{directory-good}
+use Rattle.store.specs.StoreLaws.{store-parts, directory-good}
 use Rattle.store.specs.declared.directory.Directory.{Directory}
 use Rattle.store.specs.BlockLaws.{listed-first, first-listed, starts-increase}
 use Rattle.store.specs.LayoutLaws.{layout-first, layout-sound, scan-layout}
@@ -44,17 +44,16 @@ module _ (s : List ℕ) where
       (le-or-lt (x .0) (y .0))
 
   pub store-valid : storeOk s ≡ true → Valid s (blockCount s) (first s)
-  unfolding storeOk apart
+  unfolding apart
   store-valid h =
-      let x = and-parts (lengthOk (length s) && allBelow (blockCount s) (sound s)) (not (clash s (startsTo s (blockCount s)) (length (startsTo s (blockCount s))))) h in
-      let y = and-parts (lengthOk (length s)) (allBelow (blockCount s) (sound s)) (x .0) in
-      let z = length-parts s (y .0) in
+      let x = store-parts s h in
+      let z = length-parts s (x .0) in
       record {
         long = z .0;
         some = z .1;
         few = z .2;
-        layout = scan-layout s (blockCount s) (y .1);
-        apart = λ b c l q f g w. true≢false (sym (shares-law (fromBlock s b) (fromBlock s c) .1 w) ∙ clash-none (blockCount s) b c (not-true _ (x .1)) l q f g);
+        layout = scan-layout s (blockCount s) (x .1);
+        apart = λ b c l q f g w. true≢false (sym (shares-law (fromBlock s b) (fromBlock s c) .1 w) ∙ clash-none (blockCount s) b c (not-true _ (x .2)) l q f g);
       }
 
   module _ (n : ℕ) (u : ℕ → Bool) (valid : Valid s n u) where

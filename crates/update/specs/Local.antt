@@ -3,21 +3,22 @@
 --   verdict-local                              the same verdict
 use Prim.Native.Nat.{ℕ, _+_, _*_, _-_, _<_, _≤_}
 use mathlib.Core.Path.{_≡_, refl, _∙_}
-use mathlib.Core.Bool.{true, _&&_}
+use mathlib.Core.Bool.{true}
 use mathlib.Core.List.{List}
 use native.Mathlib.Omega.{arith}
 use lib.ListN.{length, take, drop, length-drop}
-use lib.Dec.{leb, eqb}
+use lib.Dec.{leb}
 use borrow.Author.Tests.{le-leb}
 use Rattle.laws.specs.Bools.{and-parts, and-made}
 use Rattle.laws.specs.Below.{allBelow, all-cong}
 use Rattle.laws.specs.Same.{Same, same-less, same-drop, same-take}
 use Rattle.dwords.specs.Dword.{dword, dword-same}
-use Rattle.header.specs.Fields.{version, revision, loaderVersion, dataSize, totalSize}
+use Rattle.header.specs.Fields.{revision, dataSize, totalSize}
 use Rattle.header.specs.Sizes.{sizesOk, tableCount, entriesOf, entryCount, entryOffset}
 use Rattle.update.specs.Sums.{headerSum, entryOk, table, sumsOk}
 use Rattle.header.specs.Checks.{headerOk, sizesFit}
 use Rattle.update.specs.Verdict.{verdict}
+use Rattle.header.specs.CheckLaws.{header-parts, header-made}
 use Rattle.header.specs.SizeLaws.{Inside, inside, sizes-alike}
 use Rattle.update.specs.VerdictLaws.{Judged, judged, good-made}
 use Rattle.update.specs.declared.verdict.Verdict.the-variants.{Good}
@@ -65,11 +66,9 @@ module _ (s r : List ℕ) (t d n k : ℕ) (good : verdict s ≡ Good t d n k) (s
   entries-local = rw (← data-local, ← total-local) (sizes-local .1)
 
   header-local : headerOk r ≡ true
-  unfolding headerOk
   header-local =
-      let a = and-parts (leb 48 (length s) && eqb (version s) 1) (eqb (loaderVersion s) 1) (unfold headerOk in facts .header) in
-      let b = and-parts (leb 48 (length s)) (eqb (version s) 1) (a .0) in
-      and-made (and-made (le-leb 48 (length r) (omega (arith, header-long))) (rw (← field-local 0 (omega arith)) (b .1))) (rw (← field-local 20 (omega arith)) (a .1))
+      let a = header-parts s (facts .header) in
+      header-made r (omega (arith, header-long)) (rw (← field-local 0 (omega arith)) (a .1)) (rw (← field-local 20 (omega arith)) (a .2))
 
   fit-local : sizesFit r ≡ true
   unfolding sizesFit
