@@ -3,3 +3,4 @@ pub mod Covers
 pub mod Platforms
 pub mod PairLaws
 pub mod CoverLaws
+pub mod OtherData

@@ -4,3 +4,4 @@ pub mod Sizes
 pub mod Checks
 pub mod SizeLaws
 pub mod CheckLaws
+pub mod OtherData

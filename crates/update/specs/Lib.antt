@@ -4,3 +4,4 @@ pub mod Verdict
 pub mod SumLaws
 pub mod VerdictLaws
 pub mod Local
+pub mod OtherData
