@@ -2,8 +2,7 @@
 use mathlib.Core.Path.{_≡_}
 use mathlib.Core.Bool.{false}
 use Prim.Native.Nat.{_≤_, _-_}
-use native.Mathlib.Nat.{lt-of-lt-of-le}
-use native.Mathlib.Numerals.{add-one-le}
+use native.Mathlib.Omega.{arith}
 use borrow.Author.Needs.{needs}
 use Rattle.laws.specs.Below.{anyBelow}
 use Rattle.store.specs.StoreLaws.{directory-few}
@@ -24,7 +23,7 @@ loop-again c =
     let l = w .before .before in
     let pre = l .before .before .before .pre in
     let inv = l .before .loop .inv in
-    (add-one-le (l .loop-test .taken), inv .1, find-more _ _ _ _ _ _ _ _ (pre .0) (pre .1) (w .wide .ensures .0) (b .from-block .ensures) (c .before .covers .ensures) (inv .2) (c .if1 .left))
+    (omega arith, inv .1, find-more _ _ _ _ _ _ _ _ (pre .0) (pre .1) (w .wide .ensures .0) (b .from-block .ensures) (c .before .covers .ensures) (inv .2) (c .if1 .left))
 
 pub find-spec : {M : Type 1} → statement M
 find-spec =
@@ -33,7 +32,7 @@ find-spec =
     Inv-loop
     μ-loop
     (λ c. search (needs, finding, directory-few))
-    (λ c. let inv = c .before .loop .inv in lt-of-lt-of-le (c .loop-test .taken) (inv .1))
+    (λ c. omega arith)
     (λ c. search needs)
     (λ c κs. search needs)
     (λ c κs. search needs)
