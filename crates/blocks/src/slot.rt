@@ -1,7 +1,7 @@
 // What stands at a block.
 ghost use mathlib.Core.Path.{_≡_};
 ghost use Prim.Native.Nat.{_*_};
-ghost use Rattle.header.specs.Sizes.{blocksOf};
+ghost use Rattle.sizes.specs.Sizes.{blocksOf};
 ghost use Rattle.blocks.specs.Slot.{fits, slotOf};
 use crate::filled;
 use crate::unused;

@@ -18,14 +18,15 @@ use Rattle.laws.specs.Unless.{unless}
 use Rattle.laws.specs.LowByte.{bit}
 use Rattle.dwords.specs.Dword.{dword}
 use Rattle.dwords.specs.Sum.{dwordsOf, total, dwordSum}
-use Rattle.header.specs.Fields.{dataSizeOf, totalSizeOf, dataSize, totalSize}
-use Rattle.header.specs.Sizes.{sizesOk, tableCount, entriesOf, entryCount, blocksOf, entryOffset}
+use Rattle.sizes.specs.Sizes.{dataSizeOf, totalSizeOf, sizesOk, entriesOf, blocksOf, entryOffset}
+use Rattle.header.specs.Fields.{dataSize, totalSize, tableCount, entryCount}
 use Rattle.update.specs.Sums.{sumOf, headerSum, entryOk, table, sumsOk}
 use Rattle.header.specs.Checks.{headerOk, sizesFit}
 use Rattle.update.specs.Verdict.{verdict}
 use Rattle.coverage.specs.Covers.{pairCount, signatureOffset, flagsOffset, signatureAt, flagsAt, platformsAt, names, pairCovers, coversAt, covers}
-use Rattle.placement.specs.Held.{Held}
-use Rattle.placement.specs.Choose.{touches, goes, bars, loses, barred, lost, choose}
+use Rattle.held.specs.Held.{Held}
+use Rattle.held.specs.Against.{touches, goes, bars, loses, barred, lost}
+use Rattle.placement.specs.Choose.{choose}
 use Rattle.answers.specs.Answers.{refusal}
 use Rattle.answers.specs.declared.answer.Answer.{Answer}
 use Rattle.plan.specs.Plan.{written, placed}

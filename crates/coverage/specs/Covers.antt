@@ -17,8 +17,8 @@ use Rattle.laws.specs.Below.{anyBelow}
 use Rattle.laws.specs.Unless.{unless}
 use Rattle.laws.specs.LowByte.{bit}
 use Rattle.dwords.specs.Dword.{dword}
-use Rattle.header.specs.Fields.{dataSize}
-use Rattle.header.specs.Sizes.{entryCount, entryOffset}
+use Rattle.header.specs.Fields.{dataSize, entryCount}
+use Rattle.sizes.specs.Sizes.{entryOffset}
 use Rattle.header.specs.Checks.{headerOk, sizesFit}
 
 unfoldable pub pairCount : List ℕ → ℕ

@@ -9,7 +9,7 @@ use lib.Dec.{eqb}
 use Rattle.laws.specs.Below.{any-cong}
 use Rattle.dwords.specs.Dword.{dword}
 use Rattle.header.specs.Fields.{dataSize}
-use Rattle.header.specs.Sizes.{entryOffset}
+use Rattle.sizes.specs.Sizes.{entryOffset}
 use Rattle.header.specs.OtherData.{OtherData, field-data, table-data, data-size, entry-count-data, header-data, fit-data}
 use Rattle.coverage.specs.Covers.{pairCount, signatureOffset, flagsOffset, signatureAt, flagsAt, platformsAt, coversAt, covers}
 

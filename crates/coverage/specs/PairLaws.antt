@@ -12,10 +12,10 @@ use lib.ListN.{length}
 use lib.Dec.{eqb}
 use borrow.Author.Tests.{ne-eqb}
 use Rattle.laws.specs.Unless.{unless}
-use Rattle.header.specs.Fields.{dataSize, totalSize}
-use Rattle.header.specs.Sizes.{entryCount, entryOffset}
+use Rattle.header.specs.Fields.{dataSize, totalSize, entryCount}
+use Rattle.sizes.specs.Sizes.{entryOffset}
 use Rattle.header.specs.Checks.{headerOk, sizesFit}
-use Rattle.header.specs.SizeLaws.{inside, entry-count-is}
+use Rattle.header.specs.Inside.{inside, entry-count-is}
 use Rattle.coverage.specs.Covers.{pairCount, signatureOffset, flagsOffset}
 
 module _ (s : List ℕ) where

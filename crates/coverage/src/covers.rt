@@ -5,16 +5,16 @@ ghost use Prim.Native.Nat.{_≤_, _<_};
 ghost use Rattle.header.specs.Fields.{dataSize};
 ghost use Rattle.coverage.specs.Covers.{pairCount, signatureOffset, flagsOffset, signatureAt, platformsAt, names, pairCovers, coversAt, covers};
 use header::checks;
-use header::sizes;
+use header::fields;
 
 // How many pairs there are: none where check 2 or 3 of the write fails.
 pub fn pair_count(s: &[u8]) -> u32
     ensures { λ r. ⌜ r ≡ pairCount (now (s .entry)) ⌝ }
 {
     if checks::header_ok(s) {
-        let d = sizes::data_size(s);
-        let t = sizes::total_size(s);
-        let n = sizes::table_count(s, d);
+        let d = fields::data_size(s);
+        let t = fields::total_size(s);
+        let n = fields::table_count(s, d);
         if checks::sizes_fit(s, d, t, n) {
             sizes::entries_of(d, t, n) + 1
         } else {
@@ -112,5 +112,5 @@ pub fn covers_with(u: &[u8], d: u32, n: u32, signature: u32, platform: u32) -> b
 pub fn covers(u: &[u8], signature: u32, platform: u32) -> bool
     ensures { λ r. ⌜ r ≡ covers (now (u .entry)) signature platform ⌝ }
 {
-    covers_with(u, sizes::data_size(u), pair_count(u), signature, platform)
+    covers_with(u, fields::data_size(u), pair_count(u), signature, platform)
 }

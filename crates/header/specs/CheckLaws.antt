@@ -9,8 +9,8 @@ use lib.ListN.{length}
 use lib.Dec.{leb, eqb}
 use borrow.Author.Tests.{eq-eqb, ne-eqb, le-leb, lt-leb, leb-true, eqb-true}
 use Rattle.laws.specs.Bools.{and-parts}
-use Rattle.header.specs.Fields.{version, loaderVersion, dataSize, totalSize}
-use Rattle.header.specs.Sizes.{sizesOk, tableCount}
+use Rattle.header.specs.Fields.{version, loaderVersion, dataSize, totalSize, tableCount}
+use Rattle.sizes.specs.Sizes.{sizesOk}
 use Rattle.header.specs.Checks.{headerOk, sizesFit}
 
 module _ (s : List ℕ) where

@@ -6,8 +6,8 @@ use mathlib.Core.Bool.{Bool, _&&_}
 use mathlib.Core.List.{List}
 use lib.ListN.{length}
 use lib.Dec.{leb, eqb}
-use Rattle.header.specs.Fields.{version, loaderVersion, dataSize, totalSize}
-use Rattle.header.specs.Sizes.{sizesOk, tableCount}
+use Rattle.header.specs.Fields.{version, loaderVersion, dataSize, totalSize, tableCount}
+use Rattle.sizes.specs.Sizes.{sizesOk}
 
 unfoldable pub headerOk : List ℕ → Bool
 headerOk s = leb 48 (length s) && eqb (version s) 1 && eqb (loaderVersion s) 1

@@ -1,12 +1,12 @@
--- The fields of the header, as stored, and what D = 0 means (document 01, "The update").
+-- The fields of the header, as stored, and the sizes that they mean (document 01, "The update").
 --   version .. storedTotalSize    the nine numbers of the header, at their offsets
---   dataSizeOf, totalSizeOf           the sizes that the stored D and T mean
---   dataSize, totalSize       the same, of an update's bytes
-use Prim.Native.Nat.{ℕ}
-use mathlib.Core.Bool.{cond}
+--   dataSize, totalSize    the sizes that the stored D and T mean
+--   tableCount    the table's count field
+--   entryCount    the number of entries
+use Prim.Native.Nat.{ℕ, _+_}
 use mathlib.Core.List.{List}
-use lib.Dec.{eqb}
 use Rattle.dwords.specs.Dword.{dword}
+use Rattle.sizes.specs.Sizes.{dataSizeOf, totalSizeOf, entriesOf}
 
 abbrev pub version : List ℕ → ℕ
 version s = dword s 0
@@ -37,15 +37,15 @@ storedDataSize s = dword s 28
 abbrev pub storedTotalSize : List ℕ → ℕ
 storedTotalSize s = dword s 32
 
--- D = 0 means 2,000 data bytes and T = 2,048, whatever stands at 32
-unfoldable pub dataSizeOf : ℕ → ℕ
-dataSizeOf d = cond (eqb d 0) 2000 d
-
-unfoldable pub totalSizeOf : ℕ → ℕ → ℕ
-totalSizeOf d t = cond (eqb d 0) 2048 t
-
 unfoldable pub dataSize : List ℕ → ℕ
 dataSize s = dataSizeOf (storedDataSize s)
 
 unfoldable pub totalSize : List ℕ → ℕ
 totalSize s = totalSizeOf (storedDataSize s) (storedTotalSize s)
+
+-- it stands behind the data
+unfoldable pub tableCount : List ℕ → ℕ
+tableCount s = dword s (48 + dataSize s)
+
+unfoldable pub entryCount : List ℕ → ℕ
+entryCount s = entriesOf (dataSize s) (totalSize s) (tableCount s)

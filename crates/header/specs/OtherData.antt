@@ -11,8 +11,7 @@ use native.Mathlib.Omega.{arith}
 use lib.ListN.{length, getD}
 use Rattle.laws.specs.Same.{Same}
 use Rattle.dwords.specs.Dword.{dword, dword-same}
-use Rattle.header.specs.Fields.{dataSize, totalSize}
-use Rattle.header.specs.Sizes.{tableCount, entryCount}
+use Rattle.header.specs.Fields.{dataSize, totalSize, tableCount, entryCount}
 use Rattle.header.specs.Checks.{headerOk, sizesFit}
 
 pub record OtherData (s r : List ℕ) : Type 0 where

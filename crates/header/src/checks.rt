@@ -1,10 +1,8 @@
 // Checks 2 and 3 of the write, on any bytes.
 ghost use mathlib.Core.Path.{_≡_};
-ghost use Rattle.header.specs.Fields.{dataSize, totalSize};
-ghost use Rattle.header.specs.Sizes.{tableCount};
+ghost use Rattle.header.specs.Fields.{dataSize, totalSize, tableCount};
 ghost use Rattle.header.specs.Checks.{headerOk, sizesFit};
 use crate::fields;
-use crate::sizes;
 
 // Check 2 of the write.
 pub fn header_ok(s: &[u8]) -> bool

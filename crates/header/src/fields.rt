@@ -1,6 +1,6 @@
-// The fields of an update's header, as stored.
+// The fields of an update's header, as stored, and the sizes that they mean.
 ghost use mathlib.Core.Path.{_≡_};
-ghost use Rattle.header.specs.Fields.{version, revision, date, signature, checksum, loaderVersion, flags, storedDataSize, storedTotalSize};
+ghost use Rattle.header.specs.Fields.{version, revision, date, signature, checksum, loaderVersion, flags, storedDataSize, storedTotalSize, dataSize, totalSize, tableCount};
 
 // Must be 1.
 pub fn version(s: &[u8]) -> u32
@@ -58,4 +58,26 @@ pub fn stored_total_size(s: &[u8]) -> u32
     ensures { λ r. ⌜ r ≡ storedTotalSize (now (s .entry)) ⌝ }
 {
     dwords::dword(s, 32)
+}
+
+// The number of data bytes.
+pub fn data_size(s: &[u8]) -> u32
+    ensures { λ r. ⌜ r ≡ dataSize (now (s .entry)) ⌝ }
+{
+    sizes::data_size_of(stored_data_size(s))
+}
+
+// The number of bytes in all.
+pub fn total_size(s: &[u8]) -> u32
+    ensures { λ r. ⌜ r ≡ totalSize (now (s .entry)) ⌝ }
+{
+    sizes::total_size_of(stored_data_size(s), stored_total_size(s))
+}
+
+// The table's count field, which stands behind the `d` data bytes.
+pub fn table_count(s: &[u8], d: u32) -> u32
+    requires { ⌜ d ≡ dataSize (now s) ⌝ }
+    ensures { λ r. ⌜ r ≡ tableCount (now (s .entry)) ⌝ }
+{
+    dwords::dword(s, 48 + d as usize)
 }

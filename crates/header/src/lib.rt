@@ -1,5 +1,4 @@
-// The header of an update: its fields, its sizes, and the checks that need no sum.
+// The header of an update: its fields, the sizes that they mean, and the checks that need no sum.
 // Every public function takes any bytes, of any length. A byte behind the end of a slice reads as 0.
 pub mod checks;
 pub mod fields;
-pub mod sizes;

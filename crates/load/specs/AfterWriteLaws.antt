@@ -23,7 +23,7 @@ use Rattle.laws.specs.Below.{all-at, anyBelow, any-at, any-fails}
 use Rattle.laws.specs.Same.{same-less}
 use Rattle.laws.specs.Unless.{unless}
 use Rattle.header.specs.Fields.{revision, totalSize}
-use Rattle.header.specs.Sizes.{blocksOf}
+use Rattle.sizes.specs.Sizes.{blocksOf}
 use Rattle.update.specs.Verdict.{verdict}
 use Rattle.update.specs.VerdictLaws.{good-size, good-blocks}
 use Rattle.coverage.specs.Covers.{covers}

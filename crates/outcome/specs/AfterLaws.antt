@@ -15,7 +15,7 @@ use borrow.Author.Tests.{eqb-true, eq-eqb}
 use Rattle.laws.specs.Bools.{no-true}
 use Rattle.laws.specs.Below.{all-true}
 use Rattle.laws.specs.Same.{Same}
-use Rattle.header.specs.Sizes.{blocksOf}
+use Rattle.sizes.specs.Sizes.{blocksOf}
 use Rattle.update.specs.Verdict.{verdict}
 use Rattle.sharing.specs.Shares.{Shares}
 use Rattle.sharing.specs.Local.{Alike, shares-move, shares-turn}

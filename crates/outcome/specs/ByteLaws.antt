@@ -18,7 +18,7 @@ use Rattle.laws.specs.Span.{spans, spans-law}
 use Rattle.laws.specs.Bools.{and-parts, no-true}
 use Rattle.laws.specs.Below.{any-at, any-stop, any-cong}
 use Rattle.laws.specs.Unless.{unless}
-use Rattle.header.specs.Sizes.{blocksOf}
+use Rattle.sizes.specs.Sizes.{blocksOf}
 use Rattle.store.specs.Scan.{sizeAt, first}
 use Rattle.store.specs.Valid.{Owned}
 use Rattle.outcome.specs.Bytes.{tabulate, ownedBy, emptiedAt, inRun, runByte, clearedByte, outcomeByte, outcomeBytes}

@@ -16,7 +16,7 @@ use lib.Dec.{ltb}
 use Rattle.laws.specs.Below.{anyBelow}
 use Rattle.laws.specs.Span.{spans}
 use Rattle.laws.specs.Unless.{unless}
-use Rattle.header.specs.Sizes.{blocksOf}
+use Rattle.sizes.specs.Sizes.{blocksOf}
 use Rattle.store.specs.Scan.{first, sizeAt}
 
 unfoldable pub tabulate : ℕ → ℕ → (ℕ → ℕ) → List ℕ

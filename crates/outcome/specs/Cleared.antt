@@ -18,7 +18,7 @@ use Rattle.laws.specs.Bools.{no-true}
 use Rattle.laws.specs.Orders.{le-or-lt}
 use Rattle.laws.specs.Unless.{unless}
 use Rattle.paste.specs.Paste.{putAt, fillAt, put-long, put-low, put-mid, put-high, fill-long, fill-out, fill-mid}
-use Rattle.header.specs.Sizes.{blocksOf}
+use Rattle.sizes.specs.Sizes.{blocksOf}
 use Rattle.store.specs.Scan.{sizeAt, first}
 use Rattle.outcome.specs.Bytes.{tabulate, emptiedAt, runByte, clearedByte, outcomeBytes}
 use Rattle.outcome.specs.ByteLaws.{length-tabulate, getD-tabulate, emptied-at, at-emptied, emptied-same, at-run, not-run, outcome-length, outcome-run, outcome-out}

@@ -19,7 +19,7 @@ use borrow.Author.Tests.{not-true}
 use Rattle.laws.specs.Bools.{and-parts, no-true}
 use Rattle.laws.specs.Orders.{le-or-lt}
 use Rattle.laws.specs.Same.{Same}
-use Rattle.header.specs.Sizes.{blocksOf}
+use Rattle.sizes.specs.Sizes.{blocksOf}
 use Rattle.sharing.specs.Local.{Alike}
 use Rattle.blocks.specs.Blocks.{fromBlock, blockCount}
 use Rattle.store.specs.Scan.{slotSize, slotAt, sizeAt, first}

@@ -8,7 +8,7 @@ use mathlib.Core.Bool.{Bool, true, _&&_}
 use mathlib.Core.List.{List}
 use mathlib.Core.Logic.{_⊎_}
 use Rattle.laws.specs.Count.{countBelow}
-use Rattle.header.specs.Sizes.{blocksOf}
+use Rattle.sizes.specs.Sizes.{blocksOf}
 use Rattle.sharing.specs.Shares.{Shares}
 use Rattle.blocks.specs.Blocks.{fromBlock, blockCount}
 use Rattle.store.specs.Scan.{first}

@@ -25,7 +25,7 @@ use Rattle.laws.specs.Below.{anyBelow, any-at, any-stop}
 use Rattle.laws.specs.Orders.{le-or-lt}
 use Rattle.laws.specs.Unless.{unless}
 use Rattle.paste.specs.Paste.{putAt, fillAt}
-use Rattle.header.specs.Sizes.{blocksOf}
+use Rattle.sizes.specs.Sizes.{blocksOf}
 use Rattle.blocks.specs.Blocks.{blockCount}
 use Rattle.store.specs.Scan.{sizeAt, first}
 use Rattle.store.specs.DirectoryLaws.{Listing}

@@ -2,7 +2,7 @@
 ghost use mathlib.Core.Path.{_≡_};
 ghost use Prim.Native.Nat.{_+_, _*_, _≤_};
 ghost use lib.ListN.{length};
-ghost use Rattle.header.specs.Sizes.{blocksOf};
+ghost use Rattle.sizes.specs.Sizes.{blocksOf};
 ghost use Rattle.outcome.specs.Bytes.{outcomeBytes};
 ghost use Rattle.outcome.specs.Cleared.{cleared};
 ghost use Rattle.outcome.specs.Marks.{marked, Entries, emptyIf};

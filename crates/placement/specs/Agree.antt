@@ -6,8 +6,9 @@ use mathlib.Core.Path.{_≡_, _∙_}
 use Rattle.laws.specs.Below.{anyBelow, any-cong}
 use Rattle.laws.specs.Count.{countBelow, count-cong}
 use Rattle.laws.specs.Least.{least-cong}
-use Rattle.placement.specs.Held.{Held}
-use Rattle.placement.specs.Choose.{touches, goes, bars, loses, barred, lost, torn, choose}
+use Rattle.held.specs.Held.{Held}
+use Rattle.held.specs.Against.{bars, loses, barred, lost, torn}
+use Rattle.placement.specs.Choose.{choose}
 
 -- two tables of updates that agree below the count
 pub record Agree (g h : Held) : Type 0 where
@@ -18,21 +19,13 @@ pub record Agree (g h : Held) : Type 0 where
   pub keeps : (i : ℕ) → i < g .count → g .keeps i ≡ h .keeps i
 
 module _ (g h : Held) (a : Agree g h) where
-  touches-same : (k s i : ℕ) → i < g .count → touches g k s i ≡ touches h k s i
-  unfolding touches
-  touches-same k s i l = rw (a .start i l, a .size i l)
-
-  pub goes-same : (k s i : ℕ) → i < g .count → goes g k s i ≡ goes h k s i
-  unfolding goes
-  goes-same k s i l = rw (a .shares i l, touches-same k s i l)
-
   bars-same : (k s i : ℕ) → i < g .count → bars g k s i ≡ bars h k s i
   unfolding bars
-  bars-same k s i l = rw (a .keeps i l, goes-same k s i l)
+  bars-same k s i l = rw (a .start i l, a .size i l, a .shares i l, a .keeps i l)
 
   loses-same : (k s i : ℕ) → i < g .count → loses g k s i ≡ loses h k s i
   unfolding loses
-  loses-same k s i l = rw (a .shares i l, touches-same k s i l)
+  loses-same k s i l = rw (a .start i l, a .size i l, a .shares i l)
 
   barred-same : (k s : ℕ) → barred g k s ≡ barred h k s
   unfolding barred

@@ -12,9 +12,10 @@ use borrow.Author.Tests.{leb-true, leb-false}
 use Rattle.laws.specs.Below.{any-stop}
 use Rattle.laws.specs.Count.{countBelow}
 use Rattle.laws.specs.Least.{Pick, nowhere, at, IsLeast, Promised, least-promised}
-use Rattle.placement.specs.Held.{Held, Laid}
+use Rattle.held.specs.Held.{Held, Laid}
 use Rattle.placement.specs.Legal.{Legal, emptied}
-use Rattle.placement.specs.Choose.{goes, bars, barred, lost, choose}
+use Rattle.held.specs.Against.{goes, bars, barred, lost}
+use Rattle.placement.specs.Choose.{choose}
 use Rattle.placement.specs.Runs.{legal-open, legal-more, open-legal, emptied-goes}
 
 pub record Best (n k : ℕ) (h : Held) (start : ℕ) : Type 0 where

@@ -6,7 +6,7 @@ use mathlib.Core.Path.{_≡_}
 use mathlib.Core.Logic.{_⊎_}
 use mathlib.Core.Bool.{Bool, true, false}
 use Rattle.laws.specs.Count.{countBelow}
-use Rattle.placement.specs.Held.{Held, Holds}
+use Rattle.held.specs.Held.{Held, Holds}
 
 -- An outcome is a start block and a set e of the updates stored before, which it empties. Its run is the k blocks from the start.
 pub record Legal (n k : ℕ) (h : Held) (start : ℕ) (e : ℕ → Bool) : Type 0 where

@@ -17,9 +17,9 @@ use Rattle.laws.specs.Bools.{and-parts, and-made, no-true}
 use Rattle.laws.specs.Below.{anyBelow, any-at, any-fails, any-false}
 use Rattle.laws.specs.Span.{spans, spans-law}
 use Rattle.laws.specs.Count.{countBelow, either, second, count-mono, count-split}
-use Rattle.placement.specs.Held.{Held, Holds, Laid}
+use Rattle.held.specs.Held.{Held, Holds, Laid}
 use Rattle.placement.specs.Legal.{Legal, emptied}
-use Rattle.placement.specs.Choose.{touches, goes, bars, loses, barred, lost}
+use Rattle.held.specs.Against.{touches, goes, bars, loses, barred, lost}
 
 module _ (h : Held) (k s i : ℕ) where
   -- the higher of the two starts
@@ -54,7 +54,7 @@ module _ (n k : ℕ) (h : Held) (some : 1 ≤ k) (laid : Laid n h) (s : ℕ) (e 
       (legal .free (m .0) (m .1) (m .2))
 
   pub legal-goes : (i : ℕ) → i < h .count → goes h k s i ≡ true → e i ≡ true
-  unfolding goes
+  unfolding goes touches
   legal-goes i l g = go (h .shares i) refl g
     where
       go : (a : Bool) → h .shares i ≡ a → a || touches h k s i ≡ true → e i ≡ true
@@ -62,7 +62,7 @@ module _ (n k : ℕ) (h : Held) (some : 1 ≤ k) (laid : Laid n h) (s : ℕ) (e 
       go false q g = touched i l g
 
   pub legal-open : barred h k s ≡ false
-  unfolding barred bars
+  unfolding barred bars goes
   legal-open =
       any-false (bars h k s) (h .count) (λ i l. no-true (h .keeps i && goes h k s i) (λ b.
       let x = and-parts (h .keeps i) (goes h k s i) b in
@@ -82,7 +82,7 @@ holding-law h c i = spans-law (h .start i) (h .size i) c
 
 module _ (n k : ℕ) (h : Held) (s : ℕ) where
   met-goes : (c : ℕ) → s ≤ c → c < s + k → (i : ℕ) → Holds h i c → goes h k s i ≡ true
-  unfolding goes
+  unfolding goes touches
   met-goes c p q i x = rw (met h k s i c p q x) (or-true (h .shares i))
 
   run-free : (c : ℕ) → s ≤ c → c < s + k
@@ -107,5 +107,5 @@ module _ (n k : ℕ) (h : Held) (s : ℕ) where
   }
 
   pub emptied-goes : emptied h (goes h k s) ≡ countBelow (h .count) (h .shares) + lost h k s
-  unfolding emptied goes lost loses either second
+  unfolding emptied goes lost loses touches either second
   emptied-goes = count-split (h .shares) (touches h k s) (h .count)

@@ -1,26 +1,24 @@
 -- One more start against the choice so far. How many updates it loses matters only if they are fewer than the choice so far loses.
 --   limitOf      how many the choice so far loses; one more than a store can lose where there is none
 --   turn         the choice so far against one more start
---   capped       a number, up to a limit
---   lost-same    how many are lost doesn't depend on the second mark
---   losing       the loop that counts up to a limit, as `search` takes it
 --   trying       the three ways of one more start, as `search` takes them
-use Prim.Native.Nat.{ℕ, _+_, _-_, _<_, _≤_}
-use mathlib.Core.Path.{_≡_, refl, sym, ap, _∙_}
+use Prim.Native.Nat.{ℕ, _-_, _<_, _≤_}
+use mathlib.Core.Path.{_≡_, ap, _∙_}
 use mathlib.Core.Bool.{Bool, true, false, cond}
 use mathlib.Core.Logic.{⊎-elim}
 use mathlib.Core.List.{List, []}
 use native.Mathlib.Omega.{arith}
-use lib.Dec.{ltb}
 use borrow.Author.Tests.{lt-ltb, le-ltb}
-use Rattle.laws.specs.Count.{countBelow, count-most, count-up, count-none, count-yes, count-no}
+use Rattle.laws.specs.Count.{countBelow, count-most}
 use Rattle.laws.specs.Orders.{le-or-lt}
-use Rattle.laws.specs.Least.{at, better}
+use Rattle.laws.specs.Least.{better}
 use Rattle.placement.specs.declared.Choice.{Choice}
 use Rattle.placement.specs.declared.Choice.the-variants.{At, Nowhere}
-use Rattle.placement.specs.Held.{Held}
-use Rattle.placement.specs.Choose.{touches, loses, barred, lost}
-use Rattle.placement.specs.Marks.{held, marksOf, choiceOf, pickOf, choice-pick}
+use Rattle.held.specs.Held.{Held}
+use Rattle.held.specs.Against.{loses, barred, lost}
+use Rattle.held.specs.Marks.{held, marksOf}
+use Rattle.held.specs.Capped.{capped, capped-less, capped-more, lost-same}
+use Rattle.placement.specs.Choices.{choiceOf, pickOf, choice-pick}
 
 abbrev pub limitOf : Choice → ℕ
 limitOf Nowhere = 33
@@ -29,42 +27,6 @@ limitOf (At s c) = c
 -- the choice so far against one more start
 abbrev pub turn : Held → ℕ → ℕ → Choice → Choice
 turn h k s sofar = choiceOf (cond (barred h k s) (pickOf sofar) (better (pickOf sofar) s (lost h k s)))
-
-unfoldable pub capped : ℕ → ℕ → ℕ
-capped limit c = cond (ltb c limit) c limit
-
-capped-less : (limit c : ℕ) → c < limit → capped limit c ≡ c
-unfolding capped
-capped-less limit c l = rw (lt-ltb c limit l)
-
-capped-more : (limit c : ℕ) → limit ≤ c → capped limit c ≡ limit
-unfolding capped
-capped-more limit c l = rw (le-ltb c limit l)
-
--- the loop: c is the count so far
-module _ (h : Held) (k s limit i c : ℕ) (e : c ≡ countBelow i (loses h k s)) where
-  pub lose-stop : (r : Bool) (n : ℕ) → n ≡ h .count → i < n → r ≡ loses h k s i → r ≡ true → limit ≤ c + 1 → limit ≡ capped limit (lost h k s)
-  unfolding lost
-  lose-stop r n q l f t m =
-      let y = count-up (loses h k s) (i + 1) (h .count) (omega arith) in
-      let z = count-yes (loses h k s) i c e r f t in
-      sym (capped-more limit (countBelow (h .count) (loses h k s)) (omega arith))
-
-  pub lose-done : (n : ℕ) → n ≡ h .count → i ≤ n → n ≤ i → c ≤ limit - 1 → c ≡ capped limit (lost h k s)
-  unfolding lost
-  lose-done n q l m u =
-      let w : i ≡ h .count = omega arith in
-      let z : c ≡ countBelow (h .count) (loses h k s) = rw w at e in
-      ⊎-elim
-      (λ (x : limit ≤ c). let v : c ≡ limit = omega arith in v ∙ sym (capped-more limit (countBelow (h .count) (loses h k s)) (omega arith)))
-      (λ (x : c < limit). z ∙ sym (capped-less limit (countBelow (h .count) (loses h k s)) (omega arith)))
-      (le-or-lt limit c)
-
-pub ruleset losing = (count-none, count-yes, count-no, lose-stop, lose-done)
-
-pub lost-same : (starts sizes : List ℕ) (shares keeps : List Bool) (count k s : ℕ) → lost (held (marksOf starts sizes shares [] count)) k s ≡ lost (held (marksOf starts sizes shares keeps count)) k s
-unfolding lost loses touches held
-lost-same starts sizes shares keeps count k s = refl
 
 -- l is the limit, c how many are lost, up to it, b whether some update rules the start out
 module _ (h : Held) (k s : ℕ) (sofar : Choice) (l c : ℕ) (e : l ≡ limitOf sofar) (f : c ≡ capped l (lost h k s)) where

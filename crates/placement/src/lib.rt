@@ -1,81 +1,17 @@
 // The choice of a run of blocks for a new update. `k` is the number of blocks that it takes, `s` a start block.
 ghost use mathlib.Core.Path.{_≡_};
-ghost use mathlib.Core.Bool.{false, _&&_};
-ghost use mathlib.Core.List.{[]};
+ghost use mathlib.Core.Bool.{false};
 ghost use Prim.Native.Nat.{_+_, _≤_};
-ghost use Rattle.laws.specs.Below.{anyBelow};
-ghost use Rattle.laws.specs.Count.{countBelow};
-ghost use Rattle.laws.specs.Arrays.{Filled, markAt};
-ghost use Rattle.placement.specs.Choose.{fills, barred, lost, choose};
-ghost use Rattle.placement.specs.Marks.{held, marksOf, bothAt, choiceOf, untouched};
-ghost use Rattle.placement.specs.Tries.{limitOf, capped, turn};
-
-// The stored updates in the order of their starts: update i < count starts at a block, has a size in blocks, and two marks against the
-// candidate: it covers a processor that the candidate covers; it covers a listed processor that the candidate doesn't.
-pub struct Marked {
-    pub starts: [u8; 32],
-    pub sizes: [u8; 32],
-    pub shares: [bool; 32],
-    pub keeps: [bool; 32],
-    pub count: usize,
-}
+ghost use Rattle.held.specs.Against.{barred, lost};
+ghost use Rattle.placement.specs.Choose.{choose};
+ghost use Rattle.held.specs.Marks.{held, marksOf};
+ghost use Rattle.placement.specs.Choices.{choiceOf, untouched};
+ghost use Rattle.placement.specs.Tries.{limitOf, turn};
 
 pub enum Choice {
     // the start of the run, and how many updates that do not share it touches
     At { start: u32, touched: u32 },
     Nowhere,
-}
-
-// Does some update rule the start out?
-fn barred<'a>(
-    starts: &'a [u8; 32],
-    sizes: &'a [u8; 32],
-    shares: &'a [bool; 32],
-    keeps: &'a [bool; 32],
-    count: usize,
-    k: u32,
-    s: u32,
-) -> bool
-    requires { ⌜ count ≤ 32 ⌝ }
-    ensures { λ r. ⌜ r ≡ barred (held (marksOf (now (starts .entry)) (now (sizes .entry)) (now (shares .entry)) (now (keeps .entry)) count)) k s ⌝ }
-{
-    let mut i: usize = 0;
-    while i < count {
-        if runs::bars(starts[i], sizes[i], shares[i], keeps[i], k, s) {
-            return true;
-        }
-        i += 1;
-    }
-    false
-}
-
-// How many updates that do not share does the run touch, up to `limit`? Whether they are needed doesn't matter here.
-fn lost<'a>(
-    starts: &'a [u8; 32],
-    sizes: &'a [u8; 32],
-    shares: &'a [bool; 32],
-    count: usize,
-    k: u32,
-    s: u32,
-    limit: u32,
-) -> u32
-    requires { ⌜ count ≤ 32 ⌝ }
-    ensures { λ r. ⌜ r ≡ capped limit (lost (held (marksOf (now (starts .entry)) (now (sizes .entry)) (now (shares .entry)) [] count)) k s) ⌝ }
-{
-    let mut touched: u32 = 0;
-    let mut i: usize = 0;
-    while i < count {
-        if runs::loses(starts[i], sizes[i], shares[i], k, s) {
-            if limit <= touched + 1 {
-                return limit;
-            }
-            touched += 1;
-            i += 1;
-        } else {
-            i += 1;
-        }
-    }
-    touched
 }
 
 // How many updates the choice so far touches. A store has at most 32.
@@ -103,9 +39,9 @@ fn tried<'a>(
     ensures { λ r. ⌜ r ≡ turn (held (marksOf (now (starts .entry)) (now (sizes .entry)) (now (shares .entry)) (now (keeps .entry)) count)) k s sofar ⌝ }
 {
     let most = limit(sofar);
-    let touched = lost(starts, sizes, shares, count, k, s, most);
+    let touched = held::lost(starts, sizes, shares, count, k, s, most);
     if touched < most {
-        if barred(starts, sizes, shares, keeps, count, k, s) {
+        if held::barred(starts, sizes, shares, keeps, count, k, s) {
             sofar
         } else {
             Choice::At { start: s, touched }
@@ -148,64 +84,4 @@ pub fn choose_run<'a>(
         s += 1;
     }
     sofar
-}
-
-fn both(a: bool, b: bool) -> bool
-    ensures { λ r. ⌜ r ≡ a && b ⌝ }
-{
-    if a { b } else { false }
-}
-
-// Has some update both marks? Then it rules every start out.
-pub fn torn<'a>(shares: &'a [bool; 32], keeps: &'a [bool; 32], count: usize) -> bool
-    requires { ⌜ count ≤ 32 ⌝ }
-    ensures { λ r. ⌜ r ≡ anyBelow count (bothAt (now (shares .entry)) (now (keeps .entry))) ⌝ }
-{
-    let mut i: usize = 0;
-    while i < count {
-        if both(shares[i], keeps[i]) {
-            return true;
-        }
-        i += 1;
-    }
-    false
-}
-
-// How many updates share?
-pub fn shared(shares: &[bool; 32], count: usize) -> u32
-    requires { ⌜ count ≤ 32 ⌝ }
-    ensures { λ r. ⌜ r ≡ countBelow count (markAt (now (shares .entry))) ⌝ }
-{
-    let mut sharing: u32 = 0;
-    let mut i: usize = 0;
-    while i < count {
-        let at = i;
-        i += 1;
-        if shares[at] {
-            sharing += 1;
-        }
-    }
-    sharing
-}
-
-// Marks the updates that must be filled with FFh if the candidate goes to `s`: those that are emptied, but for those that the run overwrites
-// whole.
-pub fn to_fill<'a>(
-    starts: &'a [u8; 32],
-    sizes: &'a [u8; 32],
-    shares: &'a [bool; 32],
-    count: usize,
-    k: u32,
-    s: u32,
-) -> [bool; 32]
-    requires { ⌜ count ≤ 32 ⌝ }
-    ensures { λ r. ⌜ Filled false 32 (fills (held (marksOf (now (starts .entry)) (now (sizes .entry)) (now (shares .entry)) [] count)) k s) count r ⌝ }
-{
-    let mut marks = [false; 32];
-    let mut i: usize = 0;
-    while i < count {
-        marks[i] = runs::fills(starts[i], sizes[i], shares[i], k, s);
-        i += 1;
-    }
-    marks
 }

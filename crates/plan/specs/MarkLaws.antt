@@ -18,8 +18,8 @@ use Rattle.blocks.specs.Blocks.{fromBlock}
 use Rattle.store.specs.Scan.{directory}
 use Rattle.store.specs.declared.directory.Directory.{Directory}
 use Rattle.placement.specs.Agree.{Agree}
-use Rattle.placement.specs.Marks.{held}
-use Rattle.placement.specs.declared.Marked.{Marked}
+use Rattle.held.specs.Marks.{held}
+use Rattle.held.specs.declared.Marked.{Marked}
 use Rattle.processors.specs.Covered.{Covered, keepsBy, keeping-is}
 use Rattle.plan.specs.Marks.{sharesEntry, keepsEntry, heldIn, outdates, outdated}
 

@@ -16,7 +16,7 @@ use Rattle.blocks.specs.Blocks.{fromBlock}
 use Rattle.store.specs.Scan.{directory}
 use Rattle.store.specs.DirectoryLaws.{startOf, sizeOf}
 use Rattle.processors.specs.Processors.{keeping}
-use Rattle.placement.specs.Held.{Held}
+use Rattle.held.specs.Held.{Held}
 
 -- the bytes from the first block of update number i on
 abbrev pub updateAt : List ℕ → ℕ → List ℕ

@@ -10,8 +10,9 @@ use Rattle.laws.specs.Count.{countBelow}
 use Rattle.laws.specs.Least.{Pick, nowhere, at}
 use Rattle.laws.specs.Unless.{unless}
 use Rattle.blocks.specs.Blocks.{blockCount}
-use Rattle.placement.specs.Held.{Held}
-use Rattle.placement.specs.Choose.{torn, choose}
+use Rattle.held.specs.Held.{Held}
+use Rattle.held.specs.Against.{torn}
+use Rattle.placement.specs.Choose.{choose}
 use Rattle.answers.specs.Answers.{refusal}
 use Rattle.answers.specs.declared.answer.Answer.{Answer}
 use Rattle.answers.specs.declared.answer.Answer.the-variants.{Written}

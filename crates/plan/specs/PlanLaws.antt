@@ -15,11 +15,13 @@ use Rattle.blocks.specs.Blocks.{blockCount}
 use Rattle.placement.specs.Agree.{Agree, shared-same}
 use Rattle.laws.specs.Count.{countBelow, count-most}
 use Rattle.laws.specs.Least.{Pick, nowhere, at, IsLeast, Promised, least-promised}
-use Rattle.placement.specs.Held.{Held}
-use Rattle.placement.specs.Choose.{barred, loses, lost, torn, choose}
-use Rattle.placement.specs.Marks.{held, bothAt, torn-both, shared-marks, choiceOf}
+use Rattle.held.specs.Held.{Held}
+use Rattle.held.specs.Against.{barred, loses, lost, torn}
+use Rattle.placement.specs.Choose.{choose}
+use Rattle.held.specs.Marks.{held, bothAt, torn-both, shared-marks}
+use Rattle.placement.specs.Choices.{choiceOf}
 use Rattle.laws.specs.Arrays.{markAt}
-use Rattle.placement.specs.declared.Marked.{Marked}
+use Rattle.held.specs.declared.Marked.{Marked}
 use Rattle.placement.specs.declared.Choice.{Choice}
 use Rattle.placement.specs.declared.Choice.the-variants.{At, Nowhere}
 use Rattle.answers.specs.Answers.{refusal}

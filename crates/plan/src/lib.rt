@@ -4,7 +4,7 @@ pub mod marks;
 ghost use mathlib.Core.Path.{_≡_};
 ghost use Prim.Native.Nat.{_/_, _≤_};
 ghost use lib.ListN.{length};
-ghost use Rattle.placement.specs.Marks.{held, marksOf};
+ghost use Rattle.held.specs.Marks.{held, marksOf};
 ghost use Rattle.placement.specs.Choose.{choose};
 ghost use Rattle.plan.specs.MarkLaws.{Shared};
 ghost use Rattle.plan.specs.Plan.{placed, markedAnswer};
@@ -31,7 +31,7 @@ fn place<'a>(
         Choice::Nowhere => answer::refuse(0x93, 5),
         Choice::At { start, touched } => Answer::Written(Written {
             start,
-            emptied: placement::shared(shares, count) + touched,
+            emptied: held::shared(shares, count) + touched,
         }),
     }
 }
@@ -53,7 +53,7 @@ pub fn plan_marked<'a>(
     if marks::outdated(store, starts, shares, count, candidate) {
         return answer::refuse(0x98, 0);
     }
-    if placement::torn(shares, keeps, count) {
+    if held::torn(shares, keeps, count) {
         return answer::refuse(0x93, 4);
     }
     let n = (store.len() / 2048) as u32;

@@ -12,8 +12,7 @@ ghost use Rattle.plan.specs.Marks.{outdated};
 ghost use Rattle.plan.specs.MarkLaws.{Shared, Marks};
 use coverage::covers;
 use header::fields;
-use header::sizes;
-use placement::Marked;
+use held::Marked;
 use store::directory::Directory;
 
 // Marks each stored update: it shares a processor with the candidate; it covers a listed processor that the candidate doesn't. `marks` are
@@ -31,14 +30,14 @@ pub fn mark(
     requires { ⌜ Covered (now signatures) (now platforms) (now candidate) marks ⌝ }
     ensures { λ r. ⌜ Marks (now (store .entry)) (now (signatures .entry)) (now (platforms .entry)) (now (candidate .entry)) r ⌝ }
 {
-    let data = sizes::data_size(candidate);
+    let data = fields::data_size(candidate);
     let pairs = covers::pair_count(candidate);
     let mut shared = [false; 32];
     let mut keeps = [false; 32];
     let mut i: usize = 0;
     while i < d.count {
         let u = blocks::from_start(store, d.starts[i]);
-        let m = sizes::data_size(u);
+        let m = fields::data_size(u);
         let n = covers::pair_count(u);
         shared[i] = sharing::shares_with(u, m, n, candidate, data, pairs);
         keeps[i] = processors::keeping(signatures, platforms, marks, u, m, n);

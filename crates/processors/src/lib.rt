@@ -10,7 +10,7 @@ ghost use Rattle.processors.specs.Processors.{platformOk, listOk, covers
 ghost use Rattle.laws.specs.Arrays.{markAt};
 ghost use Rattle.processors.specs.Covered.{Covered, keepsBy};
 use coverage::covers;
-use header::sizes;
+use header::fields;
 
 fn platform_ok(platforms: &[u8], i: usize) -> bool
     requires { ⌜ i < length (now platforms) ⌝ }
@@ -56,7 +56,7 @@ pub fn covered(signatures: &[u32], platforms: &[u8], candidate: &[u8]) -> [bool;
     requires { ⌜ (length (now signatures) ≤ 8) × (length (now signatures) ≡ length (now platforms)) ⌝ }
     ensures { λ r. ⌜ Covered (now (signatures .entry)) (now (platforms .entry)) (now (candidate .entry)) r ⌝ }
 {
-    let d = sizes::data_size(candidate);
+    let d = fields::data_size(candidate);
     let n = covers::pair_count(candidate);
     let mut marks = [false; 8];
     let mut i: usize = 0;

@@ -6,7 +6,7 @@ ghost use Rattle.coverage.specs.Covers.{pairCount, signatureAt, platformsAt};
 ghost use Rattle.laws.specs.Count.{countBelow};
 ghost use Rattle.sharing.specs.Shares.{common, pairShares, hasSignature, shares};
 use coverage::covers;
-use header::sizes;
+use header::fields;
 
 fn common(f: u8, g: u8) -> bool
     ensures { λ r. ⌜ r ≡ common f g ⌝ }
@@ -110,10 +110,10 @@ pub fn shares(a: &[u8], b: &[u8]) -> bool
 {
     shares_with(
         a,
-        sizes::data_size(a),
+        fields::data_size(a),
         covers::pair_count(a),
         b,
-        sizes::data_size(b),
+        fields::data_size(b),
         covers::pair_count(b),
     )
 }

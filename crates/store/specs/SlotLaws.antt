@@ -19,7 +19,7 @@ use Rattle.laws.specs.Below.{all-at}
 use Rattle.laws.specs.Unless.{unless}
 use Rattle.laws.specs.Same.{Same, same-less}
 use Rattle.dwords.specs.Dword.{dword}
-use Rattle.header.specs.Sizes.{blocksOf}
+use Rattle.sizes.specs.Sizes.{blocksOf}
 use Rattle.header.specs.CheckLaws.{header-parts}
 use Rattle.update.specs.Verdict.{verdict}
 use Rattle.update.specs.VerdictLaws.{judged, good-size}

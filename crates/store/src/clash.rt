@@ -3,7 +3,7 @@ ghost use mathlib.Core.Path.{_≡_};
 ghost use Prim.Native.Nat.{_≤_};
 ghost use Rattle.store.specs.Scan.{clash};
 use coverage::covers;
-use header::sizes;
+use header::fields;
 
 // Do two of the updates that begin at the first `count` blocks of `starts` cover a common processor? The sizes of each are read once.
 pub fn clash(s: &[u8], starts: [u8; 32], count: usize) -> bool
@@ -19,7 +19,7 @@ pub fn clash(s: &[u8], starts: [u8; 32], count: usize) -> bool
     let mut i: usize = 0;
     'scan: while i < count {
         let a = blocks::from_start(s, starts[i]);
-        let d = sizes::data_size(a);
+        let d = fields::data_size(a);
         let m = covers::pair_count(a);
         data[i] = d;
         pairs[i] = m;

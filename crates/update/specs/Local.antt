@@ -13,13 +13,14 @@ use Rattle.laws.specs.Bools.{and-parts, and-made}
 use Rattle.laws.specs.Below.{allBelow, all-cong}
 use Rattle.laws.specs.Same.{Same, same-less, same-drop, same-take}
 use Rattle.dwords.specs.Dword.{dword, dword-same}
-use Rattle.header.specs.Fields.{revision, dataSize, totalSize}
-use Rattle.header.specs.Sizes.{sizesOk, tableCount, entriesOf, entryCount, entryOffset}
+use Rattle.header.specs.Fields.{revision, dataSize, totalSize, tableCount, entryCount}
+use Rattle.sizes.specs.Sizes.{sizesOk, entriesOf, entryOffset}
 use Rattle.update.specs.Sums.{headerSum, entryOk, table, sumsOk}
 use Rattle.header.specs.Checks.{headerOk, sizesFit}
 use Rattle.update.specs.Verdict.{verdict}
 use Rattle.header.specs.CheckLaws.{header-parts, header-made}
-use Rattle.header.specs.SizeLaws.{Inside, inside, sizes-alike}
+use Rattle.header.specs.Inside.{Inside, inside}
+use Rattle.sizes.specs.SizeLaws.{sizes-alike}
 use Rattle.update.specs.VerdictLaws.{Judged, judged, good-made}
 use Rattle.update.specs.declared.verdict.Verdict.the-variants.{Good}
 

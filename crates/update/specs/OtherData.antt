@@ -9,8 +9,8 @@ use lib.Seq.{getD-drop, ext-getD}
 use Rattle.laws.specs.Below.{all-cong}
 use Rattle.laws.specs.Unless.{unless}
 use Rattle.dwords.specs.Sum.{dwordSum}
-use Rattle.header.specs.Fields.{dataSize, totalSize}
-use Rattle.header.specs.Sizes.{entryCount, entryOffset}
+use Rattle.header.specs.Fields.{dataSize, totalSize, entryCount}
+use Rattle.sizes.specs.Sizes.{entryOffset}
 use Rattle.header.specs.OtherData.{OtherData, field-data, table-data, data-size, total-size, entry-count-data, header-data, fit-data}
 use Rattle.update.specs.Sums.{headerSum, entryOk, table, sumsOk}
 use Rattle.update.specs.Verdict.{verdict}

@@ -13,10 +13,9 @@ use lib.Seq.{take-add}
 use Rattle.laws.specs.Below.{allBelow}
 use Rattle.laws.specs.Tests.{and-stop, and-next}
 use Rattle.dwords.specs.Sum.{dwordSum, sum-append}
-use Rattle.header.specs.Fields.{dataSize, totalSize}
-use Rattle.header.specs.Sizes.{entryCount}
+use Rattle.header.specs.Fields.{dataSize, totalSize, entryCount}
 use Rattle.update.specs.Sums.{sumOf, headerSum, entryOk, table, sumsOk}
-use Rattle.header.specs.SizeLaws.{Inside}
+use Rattle.header.specs.Inside.{Inside}
 
 pub sum-three : (signature flags checksum x r : ℕ) → x ≡ (signature + flags) % 2 ^ 32 → r ≡ (x + checksum) % 2 ^ 32 → r ≡ sumOf signature flags checksum
 unfolding sumOf

@@ -12,8 +12,8 @@ use lib.Dec.{eqb}
 use Rattle.laws.specs.Below.{allBelow}
 use Rattle.dwords.specs.Dword.{dword}
 use Rattle.dwords.specs.Sum.{dwordSum}
-use Rattle.header.specs.Fields.{signature, flags, checksum, dataSize, totalSize}
-use Rattle.header.specs.Sizes.{entryCount, entryOffset}
+use Rattle.header.specs.Fields.{signature, flags, checksum, dataSize, totalSize, entryCount}
+use Rattle.sizes.specs.Sizes.{entryOffset}
 
 unfoldable pub sumOf : ℕ → ℕ → ℕ → ℕ
 sumOf signature flags checksum = (signature + flags + checksum) % 2 ^ 32

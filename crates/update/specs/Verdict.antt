@@ -4,8 +4,8 @@
 use Prim.Native.Nat.{ℕ}
 use mathlib.Core.List.{List}
 use Rattle.laws.specs.Unless.{unless}
-use Rattle.header.specs.Fields.{dataSize, totalSize}
-use Rattle.header.specs.Sizes.{entryCount, blocksOf}
+use Rattle.header.specs.Fields.{dataSize, totalSize, entryCount}
+use Rattle.sizes.specs.Sizes.{blocksOf}
 use Rattle.header.specs.Checks.{headerOk, sizesFit}
 use Rattle.update.specs.Sums.{sumsOk}
 use Rattle.update.specs.declared.verdict.Verdict.{Verdict}

@@ -12,12 +12,12 @@ use mathlib.Core.List.{List}
 use native.Mathlib.Omega.{arith}
 use lib.ListN.{length}
 use Rattle.laws.specs.Unless.{unless}
-use Rattle.header.specs.Fields.{dataSize, totalSize}
-use Rattle.header.specs.Sizes.{entryCount, blocksOf}
+use Rattle.header.specs.Fields.{dataSize, totalSize, entryCount}
+use Rattle.sizes.specs.Sizes.{blocksOf}
 use Rattle.update.specs.Sums.{sumsOk}
 use Rattle.header.specs.Checks.{headerOk, sizesFit}
 use Rattle.update.specs.Verdict.{verdict}
-use Rattle.header.specs.SizeLaws.{inside}
+use Rattle.header.specs.Inside.{inside}
 use Rattle.update.specs.declared.verdict.Verdict.{Verdict}
 use Rattle.update.specs.declared.verdict.Verdict.the-variants.{Good, BadHeader, BadSum}
 

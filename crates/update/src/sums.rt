@@ -3,10 +3,10 @@ ghost use mathlib.Core.Path.{_≡_};
 ghost use Prim.Native.Nat.{_+_, _*_, _≤_, min};
 ghost use lib.ListN.{length};
 ghost use Rattle.laws.specs.Below.{allBelow};
-ghost use Rattle.header.specs.Fields.{dataSize, totalSize};
-ghost use Rattle.header.specs.Sizes.{entryCount, entryOffset};
+ghost use Rattle.header.specs.Fields.{dataSize, totalSize, entryCount};
+ghost use Rattle.sizes.specs.Sizes.{entryOffset};
 ghost use Rattle.update.specs.Sums.{sumOf, headerSum, entryOk, sumsOk};
-ghost use Rattle.header.specs.SizeLaws.{Inside};
+ghost use Rattle.header.specs.Inside.{Inside};
 use header::fields;
 
 fn sum_of(signature: u32, flags: u32, checksum: u32) -> u32

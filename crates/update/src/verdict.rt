@@ -3,7 +3,7 @@ ghost use mathlib.Core.Path.{_≡_};
 ghost use Rattle.update.specs.Verdict.{verdict};
 use crate::sums;
 use header::checks;
-use header::sizes;
+use header::fields;
 
 pub enum Verdict {
     // T, the number of data bytes, of entries and of blocks
@@ -22,9 +22,9 @@ pub fn check_update(part: &[u8]) -> Verdict
     ensures { λ r. ⌜ r ≡ verdict (now (part .entry)) ⌝ }
 {
     if checks::header_ok(part) {
-        let d = sizes::data_size(part);
-        let t = sizes::total_size(part);
-        let n = sizes::table_count(part, d);
+        let d = fields::data_size(part);
+        let t = fields::total_size(part);
+        let n = fields::table_count(part, d);
         if checks::sizes_fit(part, d, t, n) {
             let entries = sizes::entries_of(d, t, n);
             if sums::sums_ok(part, d, t, entries) {

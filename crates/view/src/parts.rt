@@ -2,7 +2,7 @@
 ghost use mathlib.Core.Path.{_≡_};
 ghost use lib.ListN.{length};
 ghost use Rattle.view.specs.View.{viewed, isUpdate, dataPart};
-use header::sizes;
+use header::fields;
 use update::verdict;
 use update::verdict::Verdict;
 
@@ -52,7 +52,7 @@ pub fn total_size(s: &[u8]) -> usize
 pub fn data_part(s: &[u8]) -> &[u8]
     ensures { λ r. ⌜ now r ≡ dataPart (now (s .entry)) ⌝ }
 {
-    let n = sizes::data_size(s) as usize;
+    let n = fields::data_size(s) as usize;
     if s.len() < 48 {
         return &s[..0];
     }

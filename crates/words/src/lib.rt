@@ -7,7 +7,7 @@ ghost use Rattle.words.specs.Words.{flagWord, axOf, answerWords, loadAx,
 ghost use Rattle.words.specs.WordLaws.{rowOf, StartBelow32};
 use answers::answer::Answer;
 use answers::choice::LoadChoice;
-use header::sizes;
+use header::fields;
 
 // 1 for true, 0 for false.
 fn flag_word(x: bool) -> u32
@@ -131,7 +131,7 @@ pub fn load_words(c: LoadChoice, loading: bool, store: &[u8], answer: &mut [u32;
         LoadChoice::Nothing => put(answer, 0, 0, on, 0, 0, 0, 0, 0),
         LoadChoice::Chosen { start, revision } => {
             let offset = start * 2048 + 48;
-            let count = sizes::data_size(blocks::from_block(store, start));
+            let count = fields::data_size(blocks::from_block(store, start));
             put(answer, 0, 0, on, 1, start, revision, offset, count)
         }
     }

@@ -18,11 +18,12 @@ use Rattle.laws.specs.Count.{countBelow}
 use Rattle.laws.specs.Least.{Pick, nowhere, at}
 use Rattle.laws.specs.Unless.{unless}
 use Rattle.header.specs.Fields.{revision, totalSize}
-use Rattle.header.specs.Sizes.{blocksOf}
+use Rattle.sizes.specs.Sizes.{blocksOf}
 use Rattle.update.specs.VerdictLaws.{judged, good-blocks}
 use Rattle.blocks.specs.Blocks.{blockCount}
-use Rattle.placement.specs.Held.{Held}
-use Rattle.placement.specs.Choose.{torn, choose}
+use Rattle.held.specs.Held.{Held}
+use Rattle.held.specs.Against.{torn}
+use Rattle.placement.specs.Choose.{choose}
 use Rattle.outcome.specs.Legal.{Legal}
 use Rattle.answers.specs.Answers.{refusal, ahOf}
 use Rattle.answers.specs.declared.answer.Answer.{Answer}

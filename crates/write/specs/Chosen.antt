@@ -13,12 +13,13 @@ use Rattle.laws.specs.Below.{anyBelow, any-at}
 use Rattle.laws.specs.Count.{count-cong}
 use Rattle.laws.specs.Least.{nowhere}
 use Rattle.header.specs.Fields.{totalSize}
-use Rattle.header.specs.Sizes.{blocksOf}
+use Rattle.sizes.specs.Sizes.{blocksOf}
 use Rattle.blocks.specs.Blocks.{blockCount}
 use Rattle.store.specs.Scan.{storeOk}
-use Rattle.placement.specs.Held.{Held}
+use Rattle.held.specs.Held.{Held}
 use Rattle.placement.specs.Legal.{emptied}
-use Rattle.placement.specs.Choose.{torn, choose, goes as goesNumber}
+use Rattle.held.specs.Against.{torn, goes as goesNumber}
+use Rattle.placement.specs.Choose.{choose}
 use Rattle.placement.specs.Best.{Best, choose-none, choose-some, torn-none as torn-nowhere}
 use Rattle.outcome.specs.Legal.{Legal, emptiedCount}
 use Rattle.answers.specs.declared.answer.Written.{Written as WrittenNumbers}

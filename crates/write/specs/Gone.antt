@@ -17,7 +17,7 @@ use Rattle.laws.specs.Below.{allBelow, all-at, all-true, any-at, any-stop}
 use Rattle.laws.specs.Count.{countBelow, count-cong}
 use Rattle.laws.specs.Same.{Same, same-less}
 use Rattle.header.specs.Fields.{revision}
-use Rattle.header.specs.Sizes.{blocksOf}
+use Rattle.sizes.specs.Sizes.{blocksOf}
 use Rattle.update.specs.Verdict.{verdict}
 use Rattle.sharing.specs.Shares.{Shares}
 use Rattle.coverage.specs.CoverLaws.{covers-platform}

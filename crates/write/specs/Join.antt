@@ -12,7 +12,7 @@ use mathlib.Core.Logic.{⊎-elim, inl, inr}
 use native.Mathlib.Omega.{arith}
 use Rattle.laws.specs.Bools.{no-true}
 use Rattle.header.specs.Fields.{totalSize}
-use Rattle.header.specs.Sizes.{blocksOf}
+use Rattle.sizes.specs.Sizes.{blocksOf}
 use Rattle.sharing.specs.Shares.{shares}
 use Rattle.sharing.specs.ShareLaws.{shares-law}
 use Rattle.blocks.specs.Blocks.{fromBlock, blockCount}
@@ -21,9 +21,9 @@ use Rattle.store.specs.Kind.{kindAt}
 use Rattle.store.specs.Valid.{Owned}
 use Rattle.store.specs.DirectoryLaws.{startOf, Listing, listing, kind-free}
 use Rattle.store.specs.declared.kind.Kind.the-variants.{Free}
-use Rattle.placement.specs.Held.{Held, Holds}
+use Rattle.held.specs.Held.{Held, Holds}
 use Rattle.placement.specs.Legal.{Legal as LegalRun}
-use Rattle.placement.specs.Choose.{touches, goes as goesNumber}
+use Rattle.held.specs.Against.{touches, goes as goesNumber}
 use Rattle.processors.specs.Processors.{keeping, keeps-law}
 use Rattle.outcome.specs.Legal.{Legal}
 use Rattle.store.specs.KindLaws.{free-unowned}

@@ -18,9 +18,9 @@ use Rattle.store.specs.declared.directory.Directory.{Directory}
 use Rattle.placement.specs.Agree.{choose-same, torn-same}
 use Rattle.plan.specs.PlanLaws.{placed-same}
 use Rattle.placement.specs.Choose.{choose}
-use Rattle.placement.specs.Marks.{held, marksOf}
+use Rattle.held.specs.Marks.{held, marksOf}
 use Rattle.laws.specs.Arrays.{markAt}
-use Rattle.placement.specs.declared.Marked.{Marked}
+use Rattle.held.specs.declared.Marked.{Marked}
 use Rattle.processors.specs.Processors.{listOk}
 use Rattle.answers.specs.Answers.{refusal}
 use Rattle.answers.specs.declared.answer.Answer.{Answer}

@@ -15,7 +15,7 @@ use Rattle.laws.specs.Count.{countBelow}
 use Rattle.laws.specs.Least.{Pick, nowhere, at}
 use Rattle.laws.specs.Unless.{unless}
 use Rattle.header.specs.Fields.{totalSize}
-use Rattle.header.specs.Sizes.{blocksOf}
+use Rattle.sizes.specs.Sizes.{blocksOf}
 use Rattle.update.specs.Verdict.{verdict}
 use Rattle.update.specs.VerdictLaws.{judged, good-size, good-blocks}
 use Rattle.update.specs.declared.verdict.Verdict.{Verdict}
@@ -23,8 +23,9 @@ use Rattle.update.specs.declared.verdict.Verdict.the-variants.{Good, BadHeader,
 use Rattle.blocks.specs.Blocks.{blockCount}
 use Rattle.store.specs.Scan.{storeOk, directory}
 use Rattle.store.specs.DirectoryLaws.{Listing, listing}
-use Rattle.placement.specs.Held.{Held, Laid}
-use Rattle.placement.specs.Choose.{torn, choose}
+use Rattle.held.specs.Held.{Held, Laid}
+use Rattle.held.specs.Against.{torn}
+use Rattle.placement.specs.Choose.{choose}
 use Rattle.placement.specs.Best.{choose-some}
 use Rattle.processors.specs.Processors.{listOk, coversOne}
 use Rattle.answers.specs.Answers.{refusal}

@@ -18,16 +18,16 @@ use lib.Seq.{ext-getD}
 use Rattle.laws.specs.Arrays.{Filled}
 use Rattle.laws.specs.Unless.{unless}
 use Rattle.header.specs.Fields.{totalSize}
-use Rattle.header.specs.Sizes.{blocksOf}
+use Rattle.sizes.specs.Sizes.{blocksOf}
 use Rattle.blocks.specs.Blocks.{blockCount}
 use Rattle.store.specs.Scan.{sizeAt, first, storeOk, directory}
 use Rattle.store.specs.Valid.{Owned}
 use Rattle.store.specs.ValidLaws.{store-valid}
 use Rattle.store.specs.DirectoryLaws.{startOf, sizeOf, Listing, listing}
-use Rattle.placement.specs.Choose.{touches, within, fills}
-use Rattle.placement.specs.Choose as choice
-use Rattle.placement.specs.Marks.{held, marksOf}
-use Rattle.placement.specs.declared.Marked.{Marked}
+use Rattle.held.specs.Against.{touches, within, fills}
+use Rattle.held.specs.Against as choice
+use Rattle.held.specs.Marks.{held, marksOf}
+use Rattle.held.specs.declared.Marked.{Marked}
 use Rattle.outcome.specs.Bytes.{inRun, clearedByte, outcomeByte, outcomeBytes}
 use Rattle.outcome.specs.ByteLaws.{emptied-same, at-run, outcome-length, getD-tabulate}
 use Rattle.outcome.specs.Marks.{marked, Entries, entries-of, marked-at}
@@ -98,7 +98,7 @@ module _ (old cand : List ℕ) (m : Marked) (start : ℕ) (y : Storing old cand 
   -- one with a block outside the run is not overwritten whole
   fills-entry : (k i c : ℕ) → k ≡ blocksOf (totalSize cand) → i < m .count → inRun start k c ≡ false → startOf (directory old) i ≤ c → c < startOf (directory old) i + sizeAt old (startOf (directory old) i)
       → fills (held m) k start i ≡ goes old cand start (startOf (directory old) i)
-  unfolding fills within held
+  unfolding fills within held choice.goes
   fills-entry k i c e l out from upto =
       let n : i < directory old .count = rw (y .shared .count-is) at l in
       let z : leb start (getD (m .starts) i 0) && leb (getD (m .starts) i 0 + getD (m .sizes) i 0) (start + k) ≡ false =

@@ -6,7 +6,7 @@ use mathlib.Core.Path.{_≡_, refl, _∙_}
 use mathlib.Core.List.{List}
 use Rattle.laws.specs.Bools.{no-true}
 use Rattle.header.specs.Fields.{totalSize}
-use Rattle.header.specs.Sizes.{blocksOf}
+use Rattle.sizes.specs.Sizes.{blocksOf}
 use Rattle.store.specs.ValidLaws.{valid-law}
 use Rattle.outcome.specs.Bytes.{outcomeBytes}
 use Rattle.outcome.specs.After.{after}

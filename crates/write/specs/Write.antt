@@ -14,7 +14,7 @@ use mathlib.Core.List.{List}
 use lib.Dec.{ltb, eqb}
 use Rattle.laws.specs.Unless.{unless}
 use Rattle.header.specs.Fields.{revision, totalSize}
-use Rattle.header.specs.Sizes.{blocksOf}
+use Rattle.sizes.specs.Sizes.{blocksOf}
 use Rattle.update.specs.Verdict.{verdict}
 use Rattle.sharing.specs.Shares.{shares}
 use Rattle.update.specs.declared.verdict.Verdict.{Verdict}

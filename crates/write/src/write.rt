@@ -4,7 +4,7 @@ ghost use mathlib.Core.Bool.{true};
 ghost use Rattle.header.specs.Fields.{revision, totalSize};
 ghost use Rattle.store.specs.Scan.{directory};
 ghost use mathlib.Core.List.{[]};
-ghost use Rattle.placement.specs.Marks.{marksOf};
+ghost use Rattle.held.specs.Marks.{marksOf};
 ghost use Rattle.processors.specs.Processors.{listOk};
 ghost use Rattle.outcome.specs.Bytes.{outcomeBytes};
 ghost use Rattle.write.specs.Write.{goes, goodAnswer, planAnswer, readBack, writeAnswer, bytesAfter, writeBytes};
@@ -13,7 +13,6 @@ ghost use Rattle.write.specs.Storing.{Storing, Storable};
 use answers::answer;
 use answers::answer::Answer;
 use header::fields;
-use header::sizes;
 use outcome::bytes;
 use plan::marks;
 use store::directory;
@@ -33,8 +32,8 @@ fn store_candidate<'a>(
     requires { ⌜ Storing (now store) (now candidate) (marksOf (now starts) (now sizes) (now shares) [] count) start ⌝ }
     ensures { λ _. ⌜ now (store .exit) ≡ outcomeBytes (now (store .entry)) (totalSize (now (candidate .entry))) (now (candidate .entry)) start (goes (now (store .entry)) (now (candidate .entry)) start) ⌝ }
 {
-    let t = sizes::total_size(candidate);
-    let gone = placement::to_fill(starts, sizes, shares, count, sizes::blocks_of(t), start);
+    let t = fields::total_size(candidate);
+    let gone = held::to_fill(starts, sizes, shares, count, sizes::blocks_of(t), start);
     bytes::write_bytes(
         store,
         starts,

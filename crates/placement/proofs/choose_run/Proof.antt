@@ -6,8 +6,10 @@ use Prim.Native.Nat.{suc, _≤_, _<_, _-_}
 use native.Mathlib.Numerals.{add-one-le}
 use native.Mathlib.Omega.{arith}
 use Rattle.laws.specs.Least.{least}
-use Rattle.placement.specs.Choose.{barred, lost, choose}
-use Rattle.placement.specs.Marks.{held, marksOf, choiceOf, pick-turn, picking}
+use Rattle.held.specs.Against.{barred, lost}
+use Rattle.placement.specs.Choose.{choose}
+use Rattle.held.specs.Marks.{held, marksOf}
+use Rattle.placement.specs.Choices.{choiceOf, pick-turn, picking}
 use Rattle.placement.proofs.choose_run.Statement.{statement}
 use Rattle.placement.proofs.choose_run.Tie as tie
 

@@ -1,6 +1,6 @@
 -- `blocks::slot::fits` meets its contract: the length, then the rest of the last block.
 use borrow.Author.Needs.{needs}
-use Rattle.header.specs.Sizes.{blocksOf}
+use Rattle.sizes.specs.Sizes.{blocksOf}
 use Rattle.blocks.specs.Slot.{fitting}
 use Rattle.blocks.proofs.slot.fits.Statement.{statement}
 use Rattle.blocks.proofs.slot.fits.Tie as tie

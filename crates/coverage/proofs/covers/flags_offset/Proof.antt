@@ -1,7 +1,7 @@
 -- `coverage::covers::flags_offset` meets its contract: the header's, or that of an entry.
 use native.Mathlib.Omega.{arith}
 use Rattle.laws.specs.Tests.{cases}
-use Rattle.header.specs.Sizes.{entryOffset}
+use Rattle.sizes.specs.Sizes.{entryOffset}
 use Rattle.coverage.specs.Covers.{flagsOffset}
 use Rattle.coverage.proofs.covers.flags_offset.Statement.{statement}
 use Rattle.coverage.proofs.covers.flags_offset.Tie as tie

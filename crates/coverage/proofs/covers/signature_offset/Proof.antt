@@ -1,7 +1,7 @@
 -- `coverage::covers::signature_offset` meets its contract: the header's, or that of an entry.
 use native.Mathlib.Omega.{arith}
 use Rattle.laws.specs.Tests.{cases}
-use Rattle.header.specs.Sizes.{entryOffset}
+use Rattle.sizes.specs.Sizes.{entryOffset}
 use Rattle.coverage.specs.Covers.{signatureOffset}
 use Rattle.coverage.proofs.covers.signature_offset.Statement.{statement}
 use Rattle.coverage.proofs.covers.signature_offset.Tie as tie

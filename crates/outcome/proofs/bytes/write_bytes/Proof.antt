@@ -1,6 +1,6 @@
 -- `outcome::bytes::write_bytes` meets its contract: the marked updates emptied, the candidate put and the rest of its last block filled are the outcome's bytes.
 use native.Mathlib.Omega.{arith}
-use Rattle.header.specs.Sizes.{blocksOf}
+use Rattle.sizes.specs.Sizes.{blocksOf}
 use Rattle.outcome.specs.Marks.{all-written}
 use Rattle.outcome.proofs.bytes.write_bytes.Statement.{statement}
 use Rattle.outcome.proofs.bytes.write_bytes.Tie as tie

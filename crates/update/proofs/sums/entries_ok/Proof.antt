@@ -5,7 +5,7 @@ use Prim.Native.Nat.{_≤_, _-_}
 use native.Mathlib.Omega.{arith}
 use Rattle.laws.specs.Below.{allBelow}
 use Rattle.laws.specs.Loops.{each}
-use Rattle.header.specs.Sizes.{entryOffset}
+use Rattle.sizes.specs.Sizes.{entryOffset}
 use Rattle.update.specs.Sums.{entryOk}
 use Rattle.update.proofs.sums.entries_ok.Statement.{statement}
 use Rattle.update.proofs.sums.entries_ok.Tie as tie

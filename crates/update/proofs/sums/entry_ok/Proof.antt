@@ -1,6 +1,6 @@
 -- `update::sums::entry_ok` meets its contract, by that of `sum_of`.
 use native.Mathlib.Omega.{arith}
-use Rattle.header.specs.Sizes.{entryOffset}
+use Rattle.sizes.specs.Sizes.{entryOffset}
 use Rattle.update.specs.Sums.{entryOk}
 use Rattle.update.proofs.sums.entry_ok.Statement.{statement}
 use Rattle.update.proofs.sums.entry_ok.Tie as tie

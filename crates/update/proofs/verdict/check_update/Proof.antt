@@ -1,7 +1,7 @@
 -- `update::verdict::check_update` meets its contract: the checks in their order.
 use Rattle.laws.specs.Unless.{checks}
 use Rattle.update.specs.Verdict.{verdict}
-use Rattle.header.specs.SizeLaws.{inside-of, entry-count-is}
+use Rattle.header.specs.Inside.{inside-of, entry-count-is}
 use Rattle.update.specs.VerdictLaws.{good-is}
 use Rattle.update.proofs.verdict.check_update.Statement.{statement}
 use Rattle.update.proofs.verdict.check_update.Tie as tie
