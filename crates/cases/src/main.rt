@@ -1,12 +1,10 @@
-// Runs the cases of document 01 and writes a line for each.
-mod make;
-mod say;
+// Runs document 01's cases of a store and of the calls, and writes lines for each.
+mod lines;
+mod stored;
 mod stores;
-mod updates;
 mod writes;
 
 fn main() {
-    updates::run();
     stores::run();
     writes::run();
 }

@@ -1,15 +1,17 @@
 // Cases of a store: presence, control, reads and load choices at each edge.
 ghost use mathlib.Core.Path.{_≡_};
 ghost use lib.ListN.{length};
-use crate::make;
-use crate::say;
+use crate::lines;
+use crate::stored;
+use samples::bytes;
+use samples::make;
 
 // The catalogue of four blocks with P in block 1, whole.
 fn catalogue() {
     let mut space = io::large_buffer();
     let buf: &mut [u8] = &mut space;
-    make::four_blocks(buf);
-    say::catalogue(make::first(buf, 8192));
+    stored::four_blocks(buf);
+    lines::catalogue(bytes::first(buf, 8192));
 }
 
 // Room for one byte more than the largest store has.
@@ -30,9 +32,9 @@ fn in_pieces(label: &[u8], n: u32) {
         have = input::add(buffer, have, &piece);
         left -= 777;
     }
-    have = input::add(buffer, have, make::first(&piece, left as usize));
+    have = input::add(buffer, have, bytes::first(&piece, left as usize));
     say::text(label);
-    say::catalogue(make::first(buffer, have));
+    lines::catalogue(bytes::first(buffer, have));
 }
 
 fn inputs() {
@@ -45,29 +47,29 @@ fn inputs() {
 fn presence(label: &[u8], n: usize) {
     let mut space = io::large_buffer();
     let buf: &mut [u8] = &mut space;
-    make::eight_blocks(buf);
-    say::reply(label, calls::presence::presence(make::first(buf, n)));
+    stored::eight_blocks(buf);
+    lines::reply(label, calls::presence::presence(bytes::first(buf, n)));
 }
 
 // Presence of the eight blocks with one byte changed.
 fn damaged(label: &[u8], at: u32, byte: u8) {
     let mut space = io::large_buffer();
     let buf: &mut [u8] = &mut space;
-    make::eight_blocks(buf);
-    make::fill(buf, at, 1, byte);
-    say::reply(label, calls::presence::presence(make::first(buf, 16384)));
+    stored::eight_blocks(buf);
+    bytes::fill(buf, at, 1, byte);
+    lines::reply(label, calls::presence::presence(bytes::first(buf, 16384)));
 }
 
 // Presence of four blocks with P in block 1 and a second P in block 3.
 fn two_of_p(label: &[u8]) {
     let mut space = io::large_buffer();
     let buf: &mut [u8] = &mut space;
-    make::four_blocks(buf);
-    make::fill(buf, 6144, 2048, 0);
+    stored::four_blocks(buf);
+    bytes::fill(buf, 6144, 2048, 0);
     if 6144 <= buf.len() {
         make::p(&mut buf[6144..], 8, 0xF8E7E008);
     }
-    say::reply(label, calls::presence::presence(make::first(buf, 8192)));
+    lines::reply(label, calls::presence::presence(bytes::first(buf, 8192)));
 }
 
 fn presences() {
@@ -87,8 +89,8 @@ fn control(label: &[u8], task: u32, loading: bool) {
     let r = answers::control::control(task, loading);
     let on = r.loading;
     let answer = r.answer;
-    say::reply(label, answer);
-    say::loading(on);
+    lines::reply(label, answer);
+    lines::loading(on);
 }
 
 fn controls() {
@@ -104,16 +106,16 @@ fn controls() {
 fn read(label: &[u8], block: u32, n: usize) {
     let mut space = io::large_buffer();
     let buf: &mut [u8] = &mut space;
-    make::eight_blocks(buf);
+    stored::eight_blocks(buf);
     let mut second = io::large_buffer();
     let to: &mut [u8] = &mut second;
     if n <= to.len() {
-        say::reply(
+        lines::reply(
             label,
-            calls::read::read(make::first(buf, 16384), block, &mut to[0..n]),
+            calls::read::read(bytes::first(buf, 16384), block, &mut to[0..n]),
         );
     }
-    say::destination(to);
+    lines::destination(to);
 }
 
 fn reads() {
@@ -133,9 +135,9 @@ fn reads() {
 fn load(label: &[u8], loading: bool, n: usize, signature: u32, platform: u32) {
     let mut space = io::large_buffer();
     let buf: &mut [u8] = &mut space;
-    make::eight_blocks(buf);
-    let s = make::first(buf, n);
-    say::load(
+    stored::eight_blocks(buf);
+    let s = bytes::first(buf, n);
+    lines::load(
         label,
         load::choose(loading, s, signature, platform),
         load::data(loading, s, signature, platform),

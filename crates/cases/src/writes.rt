@@ -1,38 +1,40 @@
 // Cases of the write and of the dispatcher.
-use crate::make;
-use crate::say;
+use crate::lines;
+use crate::stored;
+use samples::bytes;
+use samples::make;
 
 // Writes a candidate into four blocks with P in block 1, processor (650h, 1) listed.
 fn write_p(label: &[u8], revision: u32, checksum: u32, back: u32) {
     let mut space = io::large_buffer();
     let buf: &mut [u8] = &mut space;
-    make::four_blocks(buf);
+    stored::four_blocks(buf);
     let mut second = io::large_buffer();
     let candidate: &mut [u8] = &mut second;
     make::p(candidate, revision, checksum);
     let signatures = [0x650u32];
     let platforms = [1u8];
     if 8192 <= buf.len() {
-        say::reply(
+        lines::reply(
             label,
             write::write::write(&mut buf[0..8192], &signatures, &platforms, candidate, back),
         );
     }
-    say::catalogue(make::first(buf, 8192));
+    lines::catalogue(bytes::first(buf, 8192));
 }
 
 // The same with one listed processor, given.
 fn write_for(label: &[u8], signature: u32, platform: u8) {
     let mut space = io::large_buffer();
     let buf: &mut [u8] = &mut space;
-    make::four_blocks(buf);
+    stored::four_blocks(buf);
     let mut second = io::large_buffer();
     let candidate: &mut [u8] = &mut second;
     make::p(candidate, 8, 0xF8E7E008);
     let signatures = [signature];
     let platforms = [platform];
     if 8192 <= buf.len() {
-        say::reply(
+        lines::reply(
             label,
             write::write::write(&mut buf[0..8192], &signatures, &platforms, candidate, 8),
         );
@@ -44,16 +46,15 @@ fn write_over_e(label: &[u8], n: usize) {
     let mut space = io::large_buffer();
     let buf: &mut [u8] = &mut space;
     make::tabled(buf, 0x650, 2, 1956, 2);
-    make::fill(buf, 2048, 2048, 255);
+    bytes::fill(buf, 2048, 2048, 255);
     let mut second = io::large_buffer();
     let candidate: &mut [u8] = &mut second;
-    make::header(candidate, 8, 0x651, 2, 2000, 2048);
-    make::seal(candidate, 2048);
+    make::plain(candidate, 8, 0x651, 2, 2000, 2048);
     let signatures = [0x651u32, 0x652];
     let platforms = [1u8, 1];
     if n <= 2 {
         if 4096 <= buf.len() {
-            say::reply(
+            lines::reply(
                 label,
                 write::write::write(
                     &mut buf[0..4096],
@@ -65,7 +66,7 @@ fn write_over_e(label: &[u8], n: usize) {
             );
         }
     }
-    say::catalogue(make::first(buf, 4096));
+    lines::catalogue(bytes::first(buf, 4096));
 }
 
 fn writes() {
@@ -85,7 +86,7 @@ fn writes() {
 fn call(label: &[u8], function: u32, sub: u32, task: u32, block: u32) {
     let mut space = io::large_buffer();
     let buf: &mut [u8] = &mut space;
-    make::four_blocks(buf);
+    stored::four_blocks(buf);
     let mut second = io::large_buffer();
     let candidate: &mut [u8] = &mut second;
     make::p(candidate, 8, 0xF8E7E008);
@@ -108,8 +109,8 @@ fn call(label: &[u8], function: u32, sub: u32, task: u32, block: u32) {
         );
         let answer = r.answer;
         let on = r.loading;
-        say::reply(label, answer);
-        say::loading(on);
+        lines::reply(label, answer);
+        lines::loading(on);
     }
 }
 

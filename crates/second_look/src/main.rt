@@ -10,5 +10,5 @@ fn main() {
     let mut wanted_space = io::large_buffer();
     let store: &mut [u8] = &mut store_space;
     let wanted: &mut [u8] = &mut wanted_space;
-    tally::say(tally::all(store, wanted));
+    tally::write(tally::all(store, wanted));
 }

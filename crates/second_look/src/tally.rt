@@ -4,7 +4,6 @@ use crate::layout::Layout;
 use crate::make;
 use crate::trial;
 use crate::trial::Seen;
-use libc::STDOUT_FILENO;
 
 pub struct Tally {
     pub writes: u32,
@@ -148,12 +147,11 @@ pub fn all(store: &mut [u8], wanted: &mut [u8]) -> Tally {
 }
 
 fn line(label: &[u8], n: u32) {
-    io::write_all(STDOUT_FILENO, label);
-    io::print_decimal(STDOUT_FILENO, n as u64);
-    io::write_all(STDOUT_FILENO, b"\n");
+    say::number(label, n);
+    say::text(b"\n");
 }
 
-pub fn say(t: Tally) {
+pub fn write(t: Tally) {
     let emptied = t.emptied;
     line(b"writes ", t.writes);
     line(b"refused with AL 4 ", t.torn);

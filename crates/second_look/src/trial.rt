@@ -7,6 +7,7 @@ use crate::outcomes::Outcome;
 use crate::outcomes::Set;
 use answers::answer;
 use answers::answer::Answer;
+use samples::bytes;
 
 // What was seen of one write: whether it was as it should be, and its AL or its emptied count.
 pub struct Seen {
@@ -46,7 +47,7 @@ fn empty_update(buf: &mut [u8], l: Layout, set: Set, i: usize) {
         if set.has[i] {
             let start = l.starts[i];
             let size = l.sizes[i];
-            make::fill(buf, layout::bytes(start), layout::bytes(size), 255);
+            bytes::fill(buf, layout::bytes(start), layout::bytes(size), 255);
         }
     }
 }
@@ -62,8 +63,8 @@ fn empty_all(buf: &mut [u8], l: Layout, set: Set) {
 
 // Puts a candidate of T bytes at a start, and FFh behind it to the end of its run of `n` blocks.
 fn put_candidate(buf: &mut [u8], start: u32, candidate: &[u8], t: u32, n: u32) {
-    make::fill(buf, layout::bytes(start), layout::bytes(n), 255);
-    make::copy(candidate, t, buf, layout::bytes(start));
+    bytes::fill(buf, layout::bytes(start), layout::bytes(n), 255);
+    bytes::copy(candidate, t, buf, layout::bytes(start));
 }
 
 // Whether two buffers have the same first `n` bytes.
@@ -126,7 +127,7 @@ fn prepare(
     n: u32,
 ) {
     make::store(store, l);
-    make::copy(store, 12288, wanted, 0);
+    bytes::copy(store, 12288, wanted, 0);
     if o.found {
         let set = o.set;
         empty_all(wanted, l, set);

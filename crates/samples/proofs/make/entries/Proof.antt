@@ -1,10 +1,10 @@
--- `cases::make::entries` is safe and ends: `k` grows to `n`, and the slice keeps its length.
+-- `samples::make::entries` is safe and ends: `k` grows to `n`, and the slice keeps its length.
 use mathlib.Core.Path.{_≡_}
 use Prim.Native.Nat.{_≤_, _-_}
 use lib.ListN.{length}
 use borrow.Author.Needs.{needs}
-use Rattle.cases.proofs.make.entries.Statement.{statement}
-use Rattle.cases.proofs.make.entries.Tie as tie
+use Rattle.samples.proofs.make.entries.Statement.{statement}
+use Rattle.samples.proofs.make.entries.Tie as tie
 
 abbrev Inv-loop : tie.InvT-loop
 Inv-loop buf₀ at n signature flags k₀ buf k = (k ≤ n) × (length buf ≡ length buf₀)

@@ -1,10 +1,10 @@
--- `second_look::make::fill` is safe and ends: `i` grows to `n`, and the slice keeps its length.
+-- `samples::bytes::fill` is safe and ends: `i` grows to `n`, and the slice keeps its length.
 use mathlib.Core.Path.{_≡_}
 use Prim.Native.Nat.{_≤_, _-_}
 use lib.ListN.{length, length-set}
 use borrow.Author.Needs.{needs}
-use Rattle.second_look.proofs.make.fill.Statement.{statement}
-use Rattle.second_look.proofs.make.fill.Tie as tie
+use Rattle.samples.proofs.bytes.fill.Statement.{statement}
+use Rattle.samples.proofs.bytes.fill.Tie as tie
 
 abbrev Inv-loop : tie.InvT-loop
 Inv-loop buf₀ from n byte i₀ buf i = (i ≤ n) × (length buf ≡ length buf₀)

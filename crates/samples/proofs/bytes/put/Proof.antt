@@ -1,9 +1,9 @@
--- `cases::make::put` is safe: a write keeps the length.
+-- `samples::bytes::put` is safe: a write keeps the length.
 use native.Mathlib.Omega.{arith}
 use lib.ListN.{length-set}
 use borrow.Author.Needs.{needs}
-use Rattle.cases.proofs.make.put.Statement.{statement}
-use Rattle.cases.proofs.make.put.Tie as tie
+use Rattle.samples.proofs.bytes.put.Statement.{statement}
+use Rattle.samples.proofs.bytes.put.Tie as tie
 
 pub put-spec : {M : Type 1} → statement M
 put-spec =
