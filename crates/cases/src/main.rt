@@ -1,10 +1,15 @@
-// Runs document 01's cases of a store and of the calls, and writes lines for each.
+// Runs document 01's cases of updates, of a store and of the calls that only read, and writes a line for each.
+mod covers;
 mod lines;
-mod stored;
+mod platforms;
+mod shares;
 mod stores;
-mod writes;
+mod verdicts;
 
 fn main() {
+    verdicts::run();
+    covers::run();
+    shares::run();
+    platforms::run();
     stores::run();
-    writes::run();
 }

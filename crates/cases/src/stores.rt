@@ -2,7 +2,6 @@
 ghost use mathlib.Core.Path.{_≡_};
 ghost use lib.ListN.{length};
 use crate::lines;
-use crate::stored;
 use samples::bytes;
 use samples::make;
 
@@ -10,7 +9,7 @@ use samples::make;
 fn catalogue() {
     let mut space = io::large_buffer();
     let buf: &mut [u8] = &mut space;
-    stored::four_blocks(buf);
+    samples::stores::four_blocks(buf);
     lines::catalogue(bytes::first(buf, 8192));
 }
 
@@ -47,7 +46,7 @@ fn inputs() {
 fn presence(label: &[u8], n: usize) {
     let mut space = io::large_buffer();
     let buf: &mut [u8] = &mut space;
-    stored::eight_blocks(buf);
+    samples::stores::eight_blocks(buf);
     lines::reply(label, calls::presence::presence(bytes::first(buf, n)));
 }
 
@@ -55,7 +54,7 @@ fn presence(label: &[u8], n: usize) {
 fn damaged(label: &[u8], at: u32, byte: u8) {
     let mut space = io::large_buffer();
     let buf: &mut [u8] = &mut space;
-    stored::eight_blocks(buf);
+    samples::stores::eight_blocks(buf);
     bytes::fill(buf, at, 1, byte);
     lines::reply(label, calls::presence::presence(bytes::first(buf, 16384)));
 }
@@ -64,7 +63,7 @@ fn damaged(label: &[u8], at: u32, byte: u8) {
 fn two_of_p(label: &[u8]) {
     let mut space = io::large_buffer();
     let buf: &mut [u8] = &mut space;
-    stored::four_blocks(buf);
+    samples::stores::four_blocks(buf);
     bytes::fill(buf, 6144, 2048, 0);
     if 6144 <= buf.len() {
         make::p(&mut buf[6144..], 8, 0xF8E7E008);
@@ -106,7 +105,7 @@ fn controls() {
 fn read(label: &[u8], block: u32, n: usize) {
     let mut space = io::large_buffer();
     let buf: &mut [u8] = &mut space;
-    stored::eight_blocks(buf);
+    samples::stores::eight_blocks(buf);
     let mut second = io::large_buffer();
     let to: &mut [u8] = &mut second;
     if n <= to.len() {
@@ -135,7 +134,7 @@ fn reads() {
 fn load(label: &[u8], loading: bool, n: usize, signature: u32, platform: u32) {
     let mut space = io::large_buffer();
     let buf: &mut [u8] = &mut space;
-    stored::eight_blocks(buf);
+    samples::stores::eight_blocks(buf);
     let s = bytes::first(buf, n);
     lines::load(
         label,

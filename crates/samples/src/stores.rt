@@ -1,6 +1,6 @@
-// Stores made in a lent buffer of zeros.
-use samples::bytes;
-use samples::make;
+// Stores made in a buffer of zeros.
+use crate::bytes;
+use crate::make;
 
 // Four blocks of FFh, with P in block 1.
 pub fn four_blocks(buf: &mut [u8]) {
