@@ -26,7 +26,7 @@ use Rattle.view.specs.View.{dataPart}
 use Rattle.load.specs.Load.{holds, holder, chosenAt, found, loadChoice, chosenData}
 use Rattle.answers.specs.declared.choice.LoadChoice.{LoadChoice}
 use Rattle.answers.specs.declared.choice.LoadChoice.the-variants as choice
-use Rattle.words.specs.WordLaws.{StartBelow32}
+use Rattle.load_words.specs.LoadWordLaws.{StartBelow32}
 
 -- a choice, taken apart: the store is valid, and an update begins at the start
 pub record Choice (s : List ℕ) (b : ℕ) : Type 0 where

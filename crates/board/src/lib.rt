@@ -3,7 +3,8 @@ ghost use mathlib.Core.Path.{_≡_};
 ghost use lib.ListN.{length};
 ghost use Rattle.dispatch.specs.Call.{callReply, callStore, callDestination};
 ghost use Rattle.load.specs.Load.{loadChoice};
-ghost use Rattle.words.specs.Words.{axOf, callWords, loadAx, loadWords};
+ghost use Rattle.words.specs.Words.{axOf, callWords};
+ghost use Rattle.load_words.specs.LoadWords.{loadAx, loadWords};
 
 // The four D042h calls. Function and sub-function are judged first, and an unknown one is answered at once.
 #[no_mangle]
@@ -65,6 +66,6 @@ pub extern "C" fn update_store_load(
     ensures answers { λ r. ⌜ now (answer .exit) ≡ loadWords loading (now (store .entry)) (loadChoice loading (now (store .entry)) signature platform) ⌝ }
 {
     let choice = load::choose(loading, store, signature, platform);
-    words::load_words(choice, loading, store, answer);
-    words::load_ax(choice)
+    load_words::load_words(choice, loading, store, answer);
+    load_words::load_ax(choice)
 }

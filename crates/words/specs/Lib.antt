@@ -1,3 +1,3 @@
--- The answer words of the board's C interface: definitions, then laws.
+-- The answer words of the calls: definitions, then laws.
 pub mod Words
 pub mod WordLaws

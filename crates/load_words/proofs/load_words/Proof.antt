@@ -1,9 +1,9 @@
--- `words::load_words` meets its contract: a case each.
+-- `load_words::load_words` meets its contract: a case each.
 use Prim.Native.Nat.{_<_}
 use native.Mathlib.Omega.{arith}
-use Rattle.words.specs.WordLaws.{load-wording, load-small}
-use Rattle.words.proofs.load_words.Statement.{statement}
-use Rattle.words.proofs.load_words.Tie as tie
+use Rattle.load_words.specs.LoadWordLaws.{load-wording, load-small}
+use Rattle.load_words.proofs.load_words.Statement.{statement}
+use Rattle.load_words.proofs.load_words.Tie as tie
 
 mul-offset : tie.Need-mul-offset
 mul-offset c = let k : c .before .c2 .given .0 .0 < 32 = search (load-small) in omega (arith, k)

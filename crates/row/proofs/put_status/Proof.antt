@@ -1,8 +1,8 @@
--- `words::put_status` meets its contract: the three words, and zeros.
+-- `row::put_status` meets its contract: the three words, and zeros.
 use borrow.Author.Needs.{needs}
-use Rattle.words.specs.WordLaws.{rowOf}
-use Rattle.words.proofs.put_status.Statement.{statement}
-use Rattle.words.proofs.put_status.Tie as tie
+use Rattle.row.specs.Row.{rowOf}
+use Rattle.row.proofs.put_status.Statement.{statement}
+use Rattle.row.proofs.put_status.Tie as tie
 
 returns : tie.Need-returns
 unfolding rowOf

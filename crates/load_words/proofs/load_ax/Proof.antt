@@ -1,8 +1,8 @@
--- `words::load_ax` meets its contract: a case each.
+-- `load_words::load_ax` meets its contract: a case each.
 use native.Mathlib.Omega.{arith}
-use Rattle.words.specs.Words.{loadAx}
-use Rattle.words.proofs.load_ax.Statement.{statement}
-use Rattle.words.proofs.load_ax.Tie as tie
+use Rattle.load_words.specs.LoadWords.{loadAx}
+use Rattle.load_words.proofs.load_ax.Statement.{statement}
+use Rattle.load_words.proofs.load_ax.Tie as tie
 
 returns : tie.Need-returns
 unfolding loadAx

@@ -1,7 +1,7 @@
--- `words::carry` meets its contract: one branch.
+-- `row::carry` meets its contract: one branch.
 use borrow.Author.Tests.{eq-eqb, ne-eqb}
-use Rattle.words.proofs.carry.Statement.{statement}
-use Rattle.words.proofs.carry.Tie as tie
+use Rattle.row.proofs.carry.Statement.{statement}
+use Rattle.row.proofs.carry.Tie as tie
 
 returns : tie.Need-returns
 returns c = rw (eq-eqb _ _ (c .if1 .taken))

@@ -1,0 +1,3 @@
+-- The answer words of the load choice: definitions, then laws.
+pub mod LoadWords
+pub mod LoadWordLaws

@@ -1,0 +1,2 @@
+-- A row of answer words.
+pub mod Row
