@@ -1,7 +1,7 @@
 -- Sub-function 0, presence (document 01, "The calls"): bad store, else the ASCII bytes INTE and LPEP, loader version 1, N.
 --   present           the answer, for N blocks
 --   presenceAnswer    the answer of the call
---   presenting        its cases, as `search` takes them
+--   presence-yes, presence-no    its cases
 use Prim.Native.Nat.{ℕ, _/_}
 use mathlib.Core.Path.{_≡_}
 use mathlib.Core.Bool.{true, false}
@@ -44,5 +44,3 @@ module _ (s : List ℕ) (d : Directory) (z : Answer) (e : d ≡ directory s) whe
   pub presence-no : d .ok ≡ false → z ≡ refusal 0x92 1 → z ≡ presenceAnswer s
   unfolding presenceAnswer
   presence-no h k = unless-stop (d .ok) (storeOk s) z (refusal 0x92 1) (present (blockCount s)) (directory-ok s d e) h k
-
-pub ruleset presenting = (presence-yes, presence-no)

@@ -1,5 +1,6 @@
 -- Laws of the read: the cases of the answer, and that what is copied fits, is there, and is at most 16 blocks.
---   kinds, reading    the cases, as `search` takes them
+--   kinds             the answer by the kind, as `search` takes it
+--   read-bad, read-number, read-kind    the order of the codes
 --   copied            the copy, as `search` takes it
 use Prim.Native.Nat.{ℕ, _+_, _*_, _/_, _<_, _≤_}
 use mathlib.Core.Path.{_≡_, refl, _∙_}
@@ -58,8 +59,6 @@ module _ (s : List ℕ) (d : Directory) (b m : ℕ) (z : Answer) (e : d ≡ dire
   read-kind j h l k q =
       let ok = directory-good s d e h in
       q ∙ rw (k, kind-law s ok d e b l, ok, lt-ltb b (length s / 2048) l)
-
-pub ruleset reading = (read-bad, read-number, read-kind)
 
 -- what is copied fits, is there, and is at most 16 blocks
 module _ (s : List ℕ) (b m : ℕ) where

@@ -2,7 +2,7 @@
 --   holder-one     in a valid store at most one update covers a processor: the holder is that one
 --   holder-none    where none covers it there is no holder
 --   finding        the scan of the directory, as `search` takes it
---   choosing       the order of the answers, as `search` takes it
+--   choose-bad .. choose-on    the order of the answers
 use Prim.Native.Nat.{ℕ, _+_, _<_, _≤_}
 use mathlib.Core.Path.{_≡_, sym, _∙_}
 use mathlib.Core.Bool.{Bool, true, false, true≢false}
@@ -92,5 +92,3 @@ module _ (s : List ℕ) (d : Directory) (loading : Bool) (x p : ℕ) (e : d ≡ 
     pub choose-on : (z : LoadChoice) → p ≤ 7 → loading ≡ true → z ≡ found s x p → z ≡ loadChoice loading s x p
     unfolding loadChoice unless
     choose-on z l k q = rw (← directory-ok s d e, h, le-leb p 7 l, k) q
-
-pub ruleset choosing = (choose-bad, choose-platform, choose-off, choose-on)

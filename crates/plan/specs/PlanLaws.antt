@@ -2,7 +2,7 @@
 --   placing    by cases of the choice, as `search` takes them
 --   place-few  the emptied count is at most 64, so the code's sum can't overflow
 --   placed-same    it goes by the starts, sizes and marks alone
---   markings   checks 6 to 8, a return at each, as `search` takes them
+--   marked-outdated, marked-torn, marked-placed    checks 6 to 8, a return at each
 use Prim.Native.Nat.{ℕ, suc, _+_, _-_, _/_, _≤_}
 use mathlib.Core.Path.{_≡_, refl, sym, _∙_, subst}
 use mathlib.Core.Bool.{Bool, true, false}
@@ -88,5 +88,3 @@ module _ (old cand : List ℕ) (m : Marked) (k : ℕ) (z : Answer) (o : Bool) (f
     pub marked-placed : t ≡ false → z ≡ placed (held m) (choose (length old / 2048) k (held m)) → z ≡ markedAnswer old cand (held m) k
     unfolding unless blockCount
     marked-placed h q = rw (← f, newer, ← torn-is, h) q
-
-pub ruleset markings = (marked-outdated, marked-torn, marked-placed)
