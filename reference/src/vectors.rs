@@ -121,11 +121,11 @@ pub fn digest(bytes: &[u8]) -> u64 {
 
 /// The line for one answer.
 pub fn line(ax: u32, words: &[u32; 16], store: u64, destination: u64) -> String {
-    let mut text = format!("{ax:08X}");
+    let mut text = format!("{ax:08x}");
     for word in words {
         write!(text, " {word}").expect("a string takes any text");
     }
-    writeln!(text, " {store:08X} {destination:08X}").expect("a string takes any text");
+    writeln!(text, " {store:08x} {destination:08x}").expect("a string takes any text");
     text
 }
 

@@ -22,3 +22,12 @@ pub fn dword(label: &[u8], n: u32) {
     text(label);
     io::print_hex(STDOUT_FILENO, n as u64, 8);
 }
+
+// The 16 answer words, each behind a space.
+pub fn words(answer: &[u32; 16]) {
+    let mut i: usize = 0;
+    while i < 16 {
+        number(b" ", answer[i]);
+        i += 1;
+    }
+}
