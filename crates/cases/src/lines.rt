@@ -48,8 +48,8 @@ pub fn shares(label: &[u8], a: &[u8], b: &[u8]) {
 
 pub fn platforms(label: &[u8], s: &[u8]) {
     say::text(label);
-    say::number(b": platforms ", coverage::platforms::platform_count(s));
-    say::number(b", lowest ", coverage::platforms::lowest_platform(s));
+    say::number(b": platforms ", platforms::platform_count(s));
+    say::number(b", lowest ", platforms::lowest_platform(s));
     say::text(b"\n");
 }
 

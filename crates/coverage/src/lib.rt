@@ -1,3 +1,2 @@
 // The processors that an update covers.
 pub mod covers;
-pub mod platforms;

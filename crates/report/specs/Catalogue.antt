@@ -15,7 +15,7 @@ use lib.ListN.{length}
 use lib.Dec.{leb}
 use Rattle.laws.specs.Unless.{unless}
 use Rattle.header.specs.Fields.{revision}
-use Rattle.coverage.specs.Platforms.{platformCount, lowestPlatform}
+use Rattle.platforms.specs.Platforms.{platformCount, lowestPlatform}
 use Rattle.blocks.specs.Blocks.{fromBlock, blockCount}
 use Rattle.store.specs.Scan.{storeOk}
 use Rattle.store.specs.Kind.{kindAt}

@@ -11,7 +11,7 @@ use Rattle.laws.specs.Count.{count-most}
 use Rattle.laws.specs.First.{first-is}
 use Rattle.header.specs.Fields.{revision}
 use Rattle.coverage.specs.Covers.{platformsAt, names}
-use Rattle.coverage.specs.Platforms.{platformCount, lowestPlatform}
+use Rattle.platforms.specs.Platforms.{platformCount, lowestPlatform}
 use Rattle.blocks.specs.Blocks.{fromBlock, blockCount}
 use Rattle.store.specs.Scan.{slotAt, begins, storeOk}
 use Rattle.store.specs.Kind.{kindAt}

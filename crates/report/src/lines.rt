@@ -9,7 +9,6 @@ ghost use Rattle.store.specs.Kind.{kindAt};
 ghost use Rattle.text.specs.Digits.{decimal};
 ghost use Rattle.report.specs.Catalogue.{lineOf, blockLine, oneIfFree};
 ghost use Rattle.text.specs.Texts.{Added};
-use coverage::platforms;
 use header::fields;
 use store::kind::Kind;
 use text::Text;

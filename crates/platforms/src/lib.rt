@@ -1,7 +1,7 @@
 // The platforms that the header's flags name.
 ghost use mathlib.Core.Path.{_≡_};
 ghost use Rattle.coverage.specs.Covers.{platformsAt};
-ghost use Rattle.coverage.specs.Platforms.{platformCount, lowestPlatform};
+ghost use Rattle.platforms.specs.Platforms.{platformCount, lowestPlatform};
 use header::fields;
 
 // The flags of the header that count.

@@ -1,0 +1,2 @@
+-- The platforms that the header's flags name.
+pub mod Platforms
