@@ -1,7 +1,7 @@
 // Runs document 01's cases of updates, of a store and of the calls that only read, and writes a line for each.
 mod covers;
+mod flags;
 mod lines;
-mod platforms;
 mod shares;
 mod stores;
 mod verdicts;
@@ -10,6 +10,6 @@ fn main() {
     verdicts::run();
     covers::run();
     shares::run();
-    platforms::run();
+    flags::run();
     stores::run();
 }

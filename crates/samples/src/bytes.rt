@@ -4,10 +4,13 @@
 pub fn put(buf: &mut [u8], at: usize, x: u32) {
     if at < buf.len() {
         if at + 4 <= buf.len() {
-            buf[at] = (x % 256) as u8;
-            buf[at + 1] = (x / 256 % 256) as u8;
-            buf[at + 2] = (x / 65536 % 256) as u8;
-            buf[at + 3] = (x / 16777216) as u8;
+            let dword = [
+                (x % 256) as u8,
+                (x / 256 % 256) as u8,
+                (x / 65536 % 256) as u8,
+                (x / 16777216) as u8,
+            ];
+            paste::put(buf, at, &dword, 4);
         }
     }
 }
@@ -24,16 +27,14 @@ pub fn fill(buf: &mut [u8], from: u32, n: u32, byte: u8) {
     }
 }
 
-// Puts the first `n` bytes of `s` at `to`.
+// Puts the first `n` bytes of `s` at `to`, where both are long enough, and n is at most 32,768.
 pub fn copy(s: &[u8], n: u32, buf: &mut [u8], to: u32) {
-    let mut i: u32 = 0;
-    while i < n {
-        let from = i as usize;
-        let at = to as usize + i as usize;
-        i += 1;
-        if from < s.len() {
-            if at < buf.len() {
-                buf[at] = s[from];
+    let count = n as usize;
+    let at = to as usize;
+    if count <= 32768 {
+        if count <= s.len() {
+            if at + count <= buf.len() {
+                paste::put(buf, at, s, count);
             }
         }
     }
