@@ -51,7 +51,7 @@ fn presence(label: &[u8], n: usize) {
 }
 
 // Presence of the eight blocks with one byte changed.
-fn damaged(label: &[u8], at: u32, byte: u8) {
+fn damaged(label: &[u8], at: usize, byte: u8) {
     let mut space = io::large_buffer();
     let buf: &mut [u8] = &mut space;
     samples::stores::eight_blocks(buf);

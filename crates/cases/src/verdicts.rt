@@ -16,7 +16,7 @@ fn changed_p(label: &[u8], at: usize, x: u32) {
     let mut space = io::large_buffer();
     let buf: &mut [u8] = &mut space;
     make::p(buf, 7, 0);
-    bytes::put(buf, at, x);
+    bytes::dword(buf, at, x);
     make::balance(buf, 16, 0, 2048);
     lines::verdict(label, bytes::first(buf, 2048));
 }
@@ -42,7 +42,7 @@ fn changed_table(label: &[u8], at: usize, x: u32) {
     let mut space = io::large_buffer();
     let buf: &mut [u8] = &mut space;
     make::tabled(buf, 0x650, 6, 1968, 1);
-    bytes::put(buf, at, x);
+    bytes::dword(buf, at, x);
     make::balance(buf, 2020, 2016, 2048);
     lines::verdict(label, bytes::first(buf, 2048));
 }
@@ -52,11 +52,11 @@ fn unsealed_table(label: &[u8]) {
     let mut space = io::large_buffer();
     let buf: &mut [u8] = &mut space;
     make::tabled(buf, 0x650, 6, 1968, 1);
-    bytes::put(buf, 2024, 2);
+    bytes::dword(buf, 2024, 2);
     let checksum = header::fields::checksum(buf);
-    bytes::put(buf, 16, std::num::wrapping_sub_u32(checksum, 1));
+    bytes::dword(buf, 16, std::num::wrapping_sub_u32(checksum, 1));
     let entry = dwords::dword(buf, 2044);
-    bytes::put(buf, 2044, std::num::wrapping_sub_u32(entry, 1));
+    bytes::dword(buf, 2044, std::num::wrapping_sub_u32(entry, 1));
     lines::verdict(label, bytes::first(buf, 2048));
 }
 

@@ -25,7 +25,7 @@ fn tabled(buf: &mut [u8], one: Cover, other: Cover, t: u32, byte: u8) {
     bytes::fill(buf, 0, t, byte);
     sample::header(buf, 5, one.signature, one.flags, t - 80, t);
     sample::balance(buf, 16, 0, at);
-    bytes::put(buf, at as usize, 1);
+    bytes::dword(buf, at as usize, 1);
     sample::entry(buf, at, 0, other.signature, other.flags);
     sample::balance(buf, at + 4, at, t);
 }

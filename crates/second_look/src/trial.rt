@@ -47,7 +47,7 @@ fn empty_update(buf: &mut [u8], l: Layout, set: Set, i: usize) {
         if set.has[i] {
             let start = l.starts[i];
             let size = l.sizes[i];
-            bytes::fill(buf, layout::bytes(start), layout::bytes(size), 255);
+            bytes::fill(buf, layout::bytes(start) as usize, layout::bytes(size), 255);
         }
     }
 }
@@ -63,8 +63,8 @@ fn empty_all(buf: &mut [u8], l: Layout, set: Set) {
 
 // Puts a candidate of T bytes at a start, and FFh behind it to the end of its run of `n` blocks.
 fn put_candidate(buf: &mut [u8], start: u32, candidate: &[u8], t: u32, n: u32) {
-    bytes::fill(buf, layout::bytes(start), layout::bytes(n), 255);
-    bytes::copy(candidate, t, buf, layout::bytes(start));
+    bytes::fill(buf, layout::bytes(start) as usize, layout::bytes(n), 255);
+    bytes::put(buf, layout::bytes(start) as usize, candidate, t);
 }
 
 // Whether two buffers have the same first `n` bytes.
@@ -127,7 +127,7 @@ fn prepare(
     n: u32,
 ) {
     make::store(store, l);
-    bytes::copy(store, 12288, wanted, 0);
+    bytes::put(wanted, 0, store, 12288);
     if o.found {
         let set = o.set;
         empty_all(wanted, l, set);

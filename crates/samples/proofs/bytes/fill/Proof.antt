@@ -1,31 +1,15 @@
--- `samples::bytes::fill` is safe and ends: `i` grows to `n`, and the slice keeps its length.
-use mathlib.Core.Path.{_≡_}
-use Prim.Native.Nat.{_≤_, _-_}
-use lib.ListN.{length, length-set}
+-- `samples::bytes::fill` meets its contract, by that of `put`.
 use borrow.Author.Needs.{needs}
+use Rattle.samples.specs.Bytes.{fill}
 use Rattle.samples.proofs.bytes.fill.Statement.{statement}
 use Rattle.samples.proofs.bytes.fill.Tie as tie
 
-abbrev Inv-loop : tie.InvT-loop
-Inv-loop buf₀ from n byte i₀ buf i = (i ≤ n) × (length buf ≡ length buf₀)
-
-abbrev μ-loop : tie.MeasureT-loop
-μ-loop buf₀ from n byte i₀ buf i = n - i
-
 pub fill-spec : {M : Type 1} → statement M
+unfolding fill
 fill-spec =
     tie.close
     (tie.spec
-    Inv-loop
-    μ-loop
     (λ c. search needs)
-    (λ c. search needs)
-    (λ c. search needs)
-    (λ c. search needs)
-    (λ c. search needs)
-    (λ c. search needs)
-    (λ c. (search needs, simp length-set (search needs)))
-    (λ c. search needs)
-    (λ c. search needs)
+    (λ c κs. search needs)
     (λ c. search needs)
     (λ c. search needs))

@@ -1,13 +1,15 @@
--- `samples::make::entries` is safe and ends: `k` grows to `n`, and the slice keeps its length.
-use mathlib.Core.Path.{_≡_}
+-- `samples::make::entries` meets its contract. The loop's invariant: the entries below `k` are written.
+use mathlib.Core.Path.{_≡_, refl}
 use Prim.Native.Nat.{_≤_, _-_}
+use native.Mathlib.Omega.{arith}
 use lib.ListN.{length}
 use borrow.Author.Needs.{needs}
+use Rattle.samples.specs.Make.{entries, entries-none, entries-more, entries-done}
 use Rattle.samples.proofs.make.entries.Statement.{statement}
 use Rattle.samples.proofs.make.entries.Tie as tie
 
 abbrev Inv-loop : tie.InvT-loop
-Inv-loop buf₀ at n signature flags k₀ buf k = (k ≤ n) × (length buf ≡ length buf₀)
+Inv-loop buf₀ at n signature flags k₀ buf k = (k ≤ n) × (length buf ≡ length buf₀) × (buf ≡ entries buf₀ at signature flags k)
 
 abbrev μ-loop : tie.MeasureT-loop
 μ-loop buf₀ at n signature flags k₀ buf k = n - k
@@ -18,12 +20,12 @@ entries-spec =
     (tie.spec
     Inv-loop
     μ-loop
+    (λ c. (omega arith, refl, entries-none _ _ _ _))
+    (λ c. omega arith)
+    (λ c κs. tt)
+    (λ c κs. tt)
+    (λ c. omega arith)
+    (λ c. omega arith)
+    (λ c. (omega arith, search needs, search entries-more))
     (λ c. search needs)
-    (λ c. search needs)
-    (λ c κs. search needs)
-    (λ c κs. search needs)
-    (λ c. search needs)
-    (λ c. search needs)
-    (λ c. search needs)
-    (λ c. search needs)
-    (λ c. search needs))
+    (λ c. search entries-done))
