@@ -3,6 +3,7 @@
 --   answer     what check 8 answers, of stored updates by start, size and marks
 --   Starred    the table, a line for each case
 --   starred    it holds
+--   p-made     the programs write the same P
 use Prim.Native.Nat.{ℕ, _+_, _*_, _%_, _/_}
 use mathlib.Core.Path.{_≡_, refl}
 use mathlib.Core.Bool.{Bool, true, false, _&&_, and-false}
@@ -28,6 +29,9 @@ use Rattle.held.specs.Held.{Held}
 use Rattle.held.specs.Against.{touches, goes, bars, loses, barred, lost}
 use Rattle.placement.specs.Choose.{choose}
 use Rattle.answers.specs.Answers.{refusal}
+use Rattle.paste.specs.Paste.{putAt}
+use Rattle.samples.specs.Bytes.{put}
+use Rattle.samples.specs.Make as sample
 use Rattle.answers.specs.declared.answer.Answer.{Answer}
 use Rattle.plan.specs.Plan.{written, placed}
 use Rattle.update.specs.declared.verdict.Verdict.the-variants.{Good, BadSum}
@@ -101,3 +105,8 @@ starred =
       stale-of-two-stale-of-one-unused = refl;
       needed-stale-needed-stale = refl;
     }
+
+-- in a buffer of zeros
+pub p-made : sample.p (replicate 2048 0) 7 0xF8E7E009 ≡ p 7 0xF8E7E009
+unfolding p bytes sample.p sample.header put putAt
+p-made = refl

@@ -1,5 +1,4 @@
 -- `samples::make::rest_of` meets its contract, by those of its calls.
-use borrow.Author.Needs.{needs}
 use Rattle.samples.specs.Make.{restOf}
 use Rattle.samples.proofs.make.rest_of.Statement.{statement}
 use Rattle.samples.proofs.make.rest_of.Tie as tie
