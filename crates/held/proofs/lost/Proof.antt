@@ -16,7 +16,7 @@ use Rattle.held.proofs.lost.Statement.{statement}
 use Rattle.held.proofs.lost.Tie as tie
 
 abbrev Inv-loop : tie.InvT-loop
-Inv-loop starts sizes shares count k s limit touched₀ i₀ touched i = (i ≤ count) × (touched ≤ i) × (touched ≤ limit - 1) × (touched ≡ countBelow i (loses (held (marksOf starts sizes shares [] count)) k s))
+Inv-loop starts sizes shares count k s limit touched₀ i₀ touched i = (touched ≡ countBelow i (loses (held (marksOf starts sizes shares [] count)) k s)) × (i ≤ count) × (touched ≤ i) × (touched ≤ limit - 1)
 
 abbrev μ-loop : tie.MeasureT-loop
 μ-loop starts sizes shares count k s limit touched₀ i₀ touched i = count - i
@@ -26,14 +26,14 @@ below : (c : tie.In-loop Inv-loop μ-loop) → c .before .loop .i < 32
 below c = lt-of-lt-of-le (c .loop-test .taken) (c .before .before .pre)
 
 few : (c : tie.In-loop Inv-loop μ-loop) → c .before .loop .touched < 32
-few c = lt-of-le-of-lt (c .before .loop .inv .1) (below c)
+few c = lt-of-le-of-lt (c .before .loop .inv .2) (below c)
 
 loop-again : tie.Need-loop-again Inv-loop μ-loop
 unfolding loses touches held
 loop-again c =
     let d = c .before .before in
     let l = d .before .before .before .before in
-    (add-one-le (l .loop-test .taken), omega arith, omega arith, count-yes _ _ _ (l .before .loop .inv .3) _ (d .loses .ensures) (c .before .if1 .taken))
+    (count-yes _ _ _ (l .before .loop .inv .0) _ (d .loses .ensures) (c .before .if1 .taken), add-one-le (l .loop-test .taken), omega arith, omega arith)
 
 loop-again-2 : tie.Need-loop-again-2 Inv-loop μ-loop
 unfolding loses touches held
@@ -41,7 +41,7 @@ loop-again-2 c =
     let d = c .before in
     let l = d .before .before .before .before in
     let inv = l .before .loop .inv in
-    (add-one-le (l .loop-test .taken), omega arith, inv .2, count-no _ _ _ (inv .3) _ (d .loses .ensures) (c .if1 .left))
+    (count-no _ _ _ (inv .0) _ (d .loses .ensures) (c .if1 .left), add-one-le (l .loop-test .taken), omega arith, inv .3)
 
 pub lost-spec : {M : Type 1} → statement M
 unfolding loses touches held

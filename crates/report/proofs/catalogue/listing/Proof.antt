@@ -10,7 +10,7 @@ use Rattle.report.proofs.catalogue.listing.Statement.{statement}
 use Rattle.report.proofs.catalogue.listing.Tie as tie
 
 abbrev Inv-loop : tie.InvT-loop
-Inv-loop s d n t₀ free₀ b₀ t11 t free b = (b ≤ n) × Added t₀ t (linesTo s b) (21 * b) × (free ≡ freeTo s b) × (free ≤ b)
+Inv-loop s d n t₀ free₀ b₀ t11 t free b = Added t₀ t (linesTo s b) (21 * b) × (free ≡ freeTo s b) × (b ≤ n) × (free ≤ b)
 
 abbrev μ-loop : tie.MeasureT-loop
 μ-loop s d n t₀ free₀ b₀ t11 t free b = n - b
@@ -25,9 +25,9 @@ loop-again c =
     let b = c .before .before in
     let l = b .before .before .loop in
     let p = b .before .before .before .before .before .before .before .before .pre in (
+      lines-more _ _ _ _ _ (l .inv .0) (c .before .block-line .ensures),
+      free-more _ _ _ _ _ (l .inv .1) (kind-is _ _ _ _ _ (p .0) (p .1) (p .2) (b .before .loop-test .taken) (b .block-kind .ensures)) (c .one-if-free .ensures .0),
       omega arith,
-      lines-more _ _ _ _ _ (l .inv .1) (c .before .block-line .ensures),
-      free-more _ _ _ _ _ (l .inv .2) (kind-is _ _ _ _ _ (p .0) (p .1) (p .2) (b .before .loop-test .taken) (b .block-kind .ensures)) (c .one-if-free .ensures .0),
       omega arith,
     )
 
@@ -41,7 +41,7 @@ listing-spec =
     (λ c. omega arith)
     (λ c κs. omega arith)
     (λ c κs. omega arith)
-    (λ c. (omega arith, search lines-none, search free-none, omega arith))
+    (λ c. (lines-none _ _ _, free-none _, omega arith, omega arith))
     (λ c κs. search directory-few)
     block-line-requires
     (λ c κs. tt)
