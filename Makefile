@@ -22,7 +22,7 @@ board:
 	$(CC) $(CFLAGS) -Iinclude examples/board.c target/staticlib/libboard.a -o target/board
 
 vectors:
-	$(REFERENCE) -- vectors crates/vectors
+	$(REFERENCE) -- vectors crates/test_vectors
 
 differ:
 	rt staticlib board

@@ -1,2 +1,2 @@
 -- The board's C interface: laws of the load choice that it lays out.
-pub mod LoadWords
+pub mod LoadPart

@@ -1,10 +1,10 @@
 // The board's C interface: the proved calls, and their answers laid out in 16 words.
 ghost use mathlib.Core.Path.{_≡_};
 ghost use lib.ListN.{length};
-ghost use Rattle.dispatch.specs.Call.{callReply, callStore, callDestination};
-ghost use Rattle.load.specs.Load.{loadChoice};
-ghost use Rattle.words.specs.Words.{axOf, callWords};
-ghost use Rattle.load_words.specs.LoadWords.{loadAx, loadWords};
+ghost use Rattle.call_dispatch.specs.Call.{callReply, callStore, callDestination};
+ghost use Rattle.load_choice.specs.Load.{loadChoice};
+ghost use Rattle.board_call_words.specs.Words.{axOf, callWords};
+ghost use Rattle.board_load_words.specs.LoadWords.{loadAx, loadWords};
 
 // The four D042h calls. Function and sub-function are judged first, and an unknown one is answered at once.
 #[no_mangle]
@@ -28,14 +28,14 @@ pub extern "C" fn update_store_call(
     ensures copies { λ r. ⌜ now (destination .exit) ≡ callDestination function «sub_function» block (now (store .entry)) (now (destination .entry)) ⌝ }
 {
     if function != 0xD042 {
-        words::unknown_words(loading, answer);
+        board_call_words::unknown_words(loading, answer);
         return 0x8600;
     }
     if sub_function > 3 {
-        words::unknown_words(loading, answer);
+        board_call_words::unknown_words(loading, answer);
         return 0x8600;
     }
-    let reply = dispatch::call(
+    let reply = call_dispatch::call(
         function,
         sub_function,
         task,
@@ -49,8 +49,8 @@ pub extern "C" fn update_store_call(
         destination,
     );
     let a = reply.answer;
-    words::call_words(a, reply.loading, answer);
-    words::ax(a)
+    board_call_words::call_words(a, reply.loading, answer);
+    board_call_words::ax(a)
 }
 
 // The load choice.
@@ -65,7 +65,7 @@ pub extern "C" fn update_store_load(
     ensures result { λ r. ⌜ r ≡ loadAx (loadChoice loading (now (store .entry)) signature platform) ⌝ }
     ensures answers { λ r. ⌜ now (answer .exit) ≡ loadWords loading (now (store .entry)) (loadChoice loading (now (store .entry)) signature platform) ⌝ }
 {
-    let choice = load::choose(loading, store, signature, platform);
-    load_words::load_words(choice, loading, store, answer);
-    load_words::load_ax(choice)
+    let choice = load_choice::choose(loading, store, signature, platform);
+    board_load_words::load_words(choice, loading, store, answer);
+    board_load_words::load_ax(choice)
 }

@@ -4,7 +4,7 @@ ghost use lib.ListN.{length};
 ghost use Rattle.io.specs.Counts.{Counts};
 use libc::STDIN_FILENO;
 use libc::STDOUT_FILENO;
-use text::Report;
+use report_text::Report;
 
 // One byte more than the largest store has: more input than that makes no difference.
 fn space() -> [u8; 65537]
@@ -25,7 +25,7 @@ fn read(buffer: &mut [u8]) -> usize
         if n == 0 {
             return have;
         }
-        have = input::add(buffer, have, &chunk[..n]);
+        have = report_input::add(buffer, have, &chunk[..n]);
     }
     have
 }
@@ -33,7 +33,7 @@ fn read(buffer: &mut [u8]) -> usize
 // Writes the catalogue of the bytes. 1,024 bytes are enough for every text.
 fn write(store: &[u8]) {
     let mut out = [0u8; 1024];
-    let answer = report::catalogue::catalogue(store, &mut out);
+    let answer = report_catalogue::catalogue(store, &mut out);
     match answer {
         Report::Text { length } => {
             io::write_all(STDOUT_FILENO, &out[..length as usize]);

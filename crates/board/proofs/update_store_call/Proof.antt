@@ -1,10 +1,10 @@
 -- `board::update_store_call` meets its contract: an unknown function or sub-function, then the reply of the call, each laid out.
 use mathlib.Core.Path.{refl, ap, _∙_}
 use native.Mathlib.Omega.{arith}
-use Rattle.answers.specs.declared.answer.Reply.{Reply}
-use Rattle.dispatch.specs.Call.{unknown}
-use Rattle.dispatch.specs.CallLaws.{other-function, above-sub}
-use Rattle.words.specs.Words.{axOf, callWords}
+use Rattle.call_answers.specs.declared.answer.Reply.{Reply}
+use Rattle.call_dispatch.specs.Call.{unknown}
+use Rattle.call_dispatch.specs.CallLaws.{other-function, above-sub}
+use Rattle.board_call_words.specs.Words.{axOf, callWords}
 use Rattle.board.proofs.update_store_call.Statement.{statement}
 use Rattle.board.proofs.update_store_call.Tie as tie
 

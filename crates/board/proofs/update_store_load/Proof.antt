@@ -1,8 +1,8 @@
 -- `board::update_store_load` meets its contract: the choice, laid out.
 use mathlib.Core.Path.{ap, _∙_}
 use borrow.Author.Needs.{needs}
-use Rattle.load_words.specs.LoadWords.{loadAx, loadWords}
-use Rattle.board.specs.LoadWords.{load-inside}
+use Rattle.board_load_words.specs.LoadWords.{loadAx, loadWords}
+use Rattle.board.specs.LoadPart.{load-inside}
 use Rattle.board.proofs.update_store_load.Statement.{statement}
 use Rattle.board.proofs.update_store_load.Tie as tie
 

@@ -1,0 +1,59 @@
+// The answers of the calls, laid out in 16 words.
+ghost use mathlib.Core.Path.{_≡_};
+ghost use Rattle.call_answers.specs.Answers.{refusal};
+ghost use Rattle.board_call_words.specs.Words.{axOf, answerWords};
+use call_answers::answer::Answer;
+
+// Writes the words of an unknown function or sub-function.
+pub fn unknown_words(loading: bool, answer: &mut [u32; 16])
+    ensures { λ _. ⌜ now (answer .exit) ≡ answerWords (refusal 0x86 0) loading ⌝ }
+{
+    let on = board_row::flag_word(loading);
+    board_row::put(answer, 0x86, 0, on, 4, 0, 0, 0, 0)
+}
+
+// The image of AX.
+pub fn ax(a: Answer) -> u32
+    ensures { λ r. ⌜ r ≡ axOf a ⌝ }
+{
+    match a {
+        Answer::Presence(_) => 0,
+        Answer::Written(_) => 0,
+        Answer::Control(_) => 0,
+        Answer::Read(_) => 0,
+        Answer::Refused(f) => f.ah as u32 * 256 + f.al as u32,
+    }
+}
+
+// Writes the words of a call's answer.
+pub fn call_words(a: Answer, loading: bool, answer: &mut [u32; 16])
+    ensures { λ _. ⌜ now (answer .exit) ≡ answerWords a loading ⌝ }
+{
+    let on = board_row::flag_word(loading);
+    match a {
+        Answer::Presence(p) => {
+            *answer = [
+                0,
+                0,
+                0,
+                on,
+                0,
+                p.byte0 as u32,
+                p.byte1 as u32,
+                p.byte2 as u32,
+                p.byte3 as u32,
+                p.byte4 as u32,
+                p.byte5 as u32,
+                p.byte6 as u32,
+                p.byte7 as u32,
+                p.loader_version,
+                p.blocks,
+                0,
+            ];
+        }
+        Answer::Written(w) => board_row::put(answer, 0, 0, on, 1, w.start, w.emptied, 0, 0),
+        Answer::Control(k) => board_row::put_status(answer, on, k.status),
+        Answer::Read(d) => board_row::put(answer, 0, 0, on, 3, d.blocks, 0, 0, 0),
+        Answer::Refused(f) => board_row::put(answer, f.ah, f.al, on, 4, f.status as u32, 0, 0, 0),
+    }
+}

@@ -1,0 +1,2 @@
+-- The answers (document 01, "Codes").
+pub mod Answers

@@ -1,0 +1,44 @@
+// Sub-function 2, control. It never looks at the store, and nothing turns loading off.
+ghost use mathlib.Core.Path.{_≡_};
+ghost use Rattle.call_control.specs.Control.{statusOf, accepted, controlReply};
+use call_answers::answer::Answer;
+use call_answers::answer::Control;
+use call_answers::answer::Refused;
+use call_answers::answer::Reply;
+
+fn status_of(loading: bool) -> u8
+    ensures { λ r. ⌜ r ≡ statusOf loading ⌝ }
+{
+    if loading { 1 } else { 0 }
+}
+
+// A task that is known, with the loading state that it leaves.
+fn accepted(loading: bool) -> Reply
+    ensures { λ r. ⌜ r ≡ accepted loading ⌝ }
+{
+    Reply {
+        answer: Answer::Control(Control {
+            status: status_of(loading),
+        }),
+        loading,
+    }
+}
+
+pub fn control(task: u32, loading: bool) -> Reply
+    ensures { λ r. ⌜ r ≡ controlReply task loading ⌝ }
+{
+    if task == 1 {
+        return accepted(true);
+    }
+    if task == 2 {
+        return accepted(loading);
+    }
+    Reply {
+        answer: Answer::Refused(Refused {
+            ah: 0x86,
+            al: 0,
+            status: 0xFF,
+        }),
+        loading,
+    }
+}

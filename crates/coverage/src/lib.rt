@@ -1,2 +1,0 @@
-// The processors that an update covers.
-pub mod covers;

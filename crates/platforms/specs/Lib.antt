@@ -1,2 +1,0 @@
--- The platforms that the header's flags name.
-pub mod Platforms

@@ -1,3 +1,0 @@
-// Texts about a store, written into a lent buffer. Every public function takes any bytes, of any length.
-pub mod catalogue;
-mod lines;

@@ -1,0 +1,58 @@
+// The catalogue of a store, written into a lent buffer. It takes any bytes, of any length.
+mod lines;
+
+ghost use mathlib.Core.Path.{_≡_};
+ghost use mathlib.Core.Bool.{true};
+ghost use Prim.Native.Nat.{_≤_};
+ghost use lib.ListN.{length};
+ghost use Rattle.store_blocks.specs.Blocks.{blockCount};
+ghost use Rattle.store_directory.specs.Scan.{storeOk, directory};
+ghost use Rattle.report_catalogue.specs.Catalogue.{catalogueText};
+ghost use Rattle.report_catalogue.specs.Reported.{reported, reportedBytes};
+ghost use Rattle.report_text.specs.Texts.{textOf};
+use report_text::Report;
+use report_text::Text;
+use report_text::give;
+use store_directory::Directory;
+use store_directory::kind;
+
+// The text of a valid store of `n` blocks, whose directory `d` is.
+fn listing(s: &[u8], d: Directory, n: u32) -> Text
+    requires { ⌜ (storeOk (now s) ≡ true) × (d ≡ directory (now s)) × (n ≡ blockCount (now s)) × (n ≤ 32) ⌝ }
+    ensures { λ r. ⌜ (textOf r ≡ catalogueText (now (s .entry))) × (r .len ≤ 1024) ⌝ }
+{
+    let head = report_text::word(report_text::empty(), b"blocks ");
+    let mut t = lines::number(head, n, b'\n');
+    let mut free: u32 = 0;
+    let mut b: u32 = 0;
+    while b < n {
+        let found = kind::block_kind(d, b);
+        t = lines::block_line(t, s, b, found);
+        free += lines::one_if_free(found);
+        b += 1;
+    }
+    let foot = report_text::word(t, b"free ");
+    lines::number(foot, free, b'\n')
+}
+
+// The text of any bytes, taken as a store.
+fn text_of(s: &[u8]) -> Text
+    ensures { λ r. ⌜ (textOf r ≡ catalogueText (now (s .entry))) × (r .len ≤ 1024) ⌝ }
+{
+    let d = store_directory::read_store(s);
+    let ok = d.ok;
+    if ok {
+        listing(s, d, (s.len() / 2048) as u32)
+    } else {
+        report_text::word(report_text::empty(), b"bad store\n")
+    }
+}
+
+// Writes the catalogue of any bytes, taken as a store, into `out`. No text has more than 1,024 bytes.
+pub fn catalogue(store: &[u8], out: &mut [u8]) -> Report
+    ensures { λ r. ⌜ r ≡ reported (now (store .entry)) (length (now (out .entry))) ⌝ }
+    ensures { λ _. ⌜ now (out .exit) ≡ reportedBytes (now (store .entry)) (now (out .entry)) ⌝ }
+    ensures { λ _. ⌜ length (catalogueText (now (store .entry))) ≤ 1024 ⌝ }
+{
+    give::give(text_of(store), out)
+}

@@ -1,0 +1,71 @@
+// Blocks of 2,048 bytes, whether bytes are all FFh, and what stands at a block.
+pub mod slot;
+
+ghost use mathlib.Core.Path.{_≡_};
+ghost use Prim.Native.Nat.{_+_, _≤_, _<_};
+ghost use lib.ListN.{length};
+ghost use Rattle.store_blocks.specs.Blocks.{isFF, filled, unused, fromBlock, lengthOk};
+
+fn is_ff(s: &[u8], i: usize, k: usize) -> bool
+    requires { ⌜ i + k < length (now s) ⌝ }
+    ensures { λ r. ⌜ r ≡ isFF (now (s .entry)) i k ⌝ }
+{
+    s[i + k] == 255
+}
+
+// Are the `n` bytes from `i` on FFh? They are exactly if they sum to 255 n, and a sum is quicker than a test of each.
+pub fn filled(s: &[u8], i: usize, n: usize) -> bool
+    requires { ⌜ (i + n ≤ length (now s)) × (n ≤ 2048) ⌝ }
+    ensures { λ r. ⌜ r ≡ filled (now (s .entry)) i n ⌝ }
+{
+    let mut sum: u32 = 0;
+    let mut k: usize = 0;
+    while k < n {
+        sum += bytes_dwords::wide(s[i + k]);
+        k += 1;
+    }
+    sum as usize == 255 * n
+}
+
+// Is the first block of the part unused? The first byte tells for all but an unused one.
+pub fn unused(s: &[u8]) -> bool
+    ensures { λ r. ⌜ r ≡ unused (now (s .entry)) ⌝ }
+{
+    if 2048 <= s.len() {
+        if is_ff(s, 0, 0) {
+            filled(s, 0, 2048)
+        } else {
+            false
+        }
+    } else {
+        false
+    }
+}
+
+// The store from block `b`'s first byte on; nothing where that is behind the end.
+pub fn from_block(s: &[u8], b: u32) -> &[u8]
+    ensures { λ r. ⌜ now r ≡ fromBlock (now (s .entry)) b ⌝ }
+{
+    let at = b as usize * 2048;
+    if at <= s.len() { &s[at..] } else { &s[..0] }
+}
+
+// The same, by a first block of a directory.
+pub fn from_start(s: &[u8], start: u8) -> &[u8]
+    ensures { λ r. ⌜ now r ≡ fromBlock (now (s .entry)) start ⌝ }
+{
+    from_block(s, bytes_dwords::wide(start))
+}
+
+// 1 to 32 whole blocks.
+pub fn length_ok(n: usize) -> bool
+    ensures { λ r. ⌜ r ≡ lengthOk n ⌝ }
+{
+    if n % 2048 != 0 {
+        return false;
+    }
+    if n / 2048 < 1 {
+        return false;
+    }
+    n / 2048 <= 32
+}

@@ -1,0 +1,79 @@
+-- What the scan for a common processor keeps of the updates that it has passed, and its turns.
+--   ofStart, Kept            an array holds f of the first i updates: their data sizes, or their numbers of pairs
+--   kept-none                the arrays at the start
+--   more-data, more-pairs    one more update
+--   held-data, held-pairs    what stands in the arrays
+--   clash-more, clash-stop   a turn of the inner scan, and its way out
+--   row-more, clash-done     a turn of the outer scan, and its end
+--   clash-few                fewer than two updates have no processor in common
+use Prim.Native.Nat.{ℕ, zero, suc, _+_, _<_, _≤_}
+use mathlib.Core.Path.{_≡_, refl, sym, _∙_}
+use mathlib.Core.Bool.{Bool, true, false}
+use mathlib.Core.List.{List}
+use native.Mathlib.Omega.{arith}
+use lib.ListN.{getD, set, replicate}
+use Rattle.laws.specs.Below.{anyBelow, any-more, any-stop}
+use Rattle.laws.specs.Loops.{scan-more}
+use Rattle.laws.specs.Arrays.{Filled, filled-none, filled-more}
+use Rattle.update_header.specs.Fields.{dataSize}
+use Rattle.update_coverage.specs.Covers.{pairCount}
+use Rattle.update_sharing.specs.Shares.{shares}
+use Rattle.store_blocks.specs.Blocks.{fromBlock}
+use Rattle.store_directory.specs.Scan.{clashAt, clashRow, clash}
+
+-- f of the update that begins at number k of xs
+unfoldable pub ofStart : (List ℕ → ℕ) → List ℕ → List ℕ → ℕ → ℕ
+ofStart f s xs k = f (fromBlock s (getD xs k 0))
+
+abbrev pub Kept : (List ℕ → ℕ) → List ℕ → List ℕ → ℕ → List ℕ → Type 0
+Kept f s xs i held = Filled 0 32 (ofStart f s xs) i held
+
+pub kept-none : (f : List ℕ → ℕ) (s xs : List ℕ) → Kept f s xs 0 (replicate 32 0)
+kept-none f s xs = filled-none _ _ _
+
+-- what stands in the arrays, of a part b that is read anew
+module _ (s xs b : List ℕ) (k i : ℕ) (held : List ℕ) (l : k < i) (e : b ≡ fromBlock s (getD xs k 0)) where
+  pub held-data : Kept dataSize s xs i held → getD held k 0 ≡ dataSize b
+  unfolding ofStart
+  held-data h = rw e (h .each k l)
+
+  pub held-pairs : Kept pairCount s xs i held → getD held k 0 ≡ pairCount b
+  unfolding ofStart
+  held-pairs h = rw e (h .each k l)
+
+module _ (s xs a : List ℕ) (i x : ℕ) (held : List ℕ) (l : i < 32) (e : a ≡ fromBlock s (getD xs i 0)) where
+  pub more-data : Kept dataSize s xs i held → x ≡ dataSize a → Kept dataSize s xs (i + 1) (set held i x)
+  unfolding ofStart
+  more-data h q = filled-more _ _ _ _ i x h l (q ∙ rw e)
+
+  pub more-pairs : Kept pairCount s xs i held → x ≡ pairCount a → Kept pairCount s xs (i + 1) (set held i x)
+  unfolding ofStart
+  more-pairs h q = filled-more _ _ _ _ i x h l (q ∙ rw e)
+
+-- a turn of the inner scan and its way out: r is what a call answered of the parts a and b
+module _ (s xs a b : List ℕ) (i j : ℕ) (r : Bool) (ea : a ≡ fromBlock s (getD xs i 0)) (eb : b ≡ fromBlock s (getD xs j 0)) (h : r ≡ shares a b) where
+  clash-is : r ≡ clashAt s xs i j
+  unfolding clashAt
+  clash-is = rw (← ea, ← eb) h
+
+  pub clash-more : anyBelow j (clashAt s xs i) ≡ false → r ≡ false → anyBelow (j + 1) (clashAt s xs i) ≡ false
+  clash-more k o = scan-more (clashAt s xs i) r j k clash-is o
+
+  pub clash-stop : (n : ℕ) → i < n → j < i → r ≡ true → true ≡ clash s xs n
+  unfolding clash clashRow
+  clash-stop n u v t = sym (any-stop (clashRow s xs) n i u (any-stop (clashAt s xs i) i j v (sym clash-is ∙ t)))
+
+module _ (s xs : List ℕ) (i : ℕ) (q : anyBelow i (clashRow s xs) ≡ false) where
+  pub row-more : (j : ℕ) → anyBelow j (clashAt s xs i) ≡ false → j ≤ i → i ≤ j → anyBelow (i + 1) (clashRow s xs) ≡ false
+  unfolding clashRow
+  row-more j h u v = let e : j ≡ i = omega arith in any-more (clashRow s xs) i q (rw e at h)
+
+  pub clash-done : (found : Bool) (n : ℕ) → found ≡ false → i ≤ n → n ≤ i → found ≡ clash s xs n
+  unfolding clash
+  clash-done found n f u v = let e : i ≡ n = omega arith in f ∙ sym (rw e at q)
+
+pub clash-few : (s xs : List ℕ) (n : ℕ) → n < 2 → false ≡ clash s xs n
+unfolding clash clashRow anyBelow
+clash-few s xs zero l = refl
+clash-few s xs (suc zero) l = refl
+clash-few s xs (suc (suc n)) l = absurd (omega arith)

@@ -1,0 +1,155 @@
+// One write tried, and compared with the best outcome.
+use crate::layout;
+use crate::layout::Layout;
+use crate::make;
+use crate::outcomes;
+use crate::outcomes::Outcome;
+use crate::outcomes::Set;
+use call_answers::answer;
+use call_answers::answer::Answer;
+use test_samples::bytes;
+
+// What was seen of one write: whether it was as it should be, and its AL or its emptied count.
+pub struct Seen {
+    pub same: bool,
+    pub written: bool,
+    pub number: u32,
+}
+
+// The write of a candidate of revision 9 to the first `n` bytes, with (100, 7), two processors by which a stored update may share, and one of each update that keeps.
+fn call(store: &mut [u8], n: usize, candidate: &[u8]) -> Answer {
+    let signatures: [u32; 7] = [0x100, 0x200, 0x201, 0x202, 0x203, 0x100, 0x100];
+    let platforms: [u8; 7] = [7, 0, 0, 0, 0, 0, 2];
+    let mut destination = [0u8; 1];
+    if n <= store.len() {
+        let reply = call_dispatch::call(
+            0xD042,
+            1,
+            0,
+            0,
+            false,
+            &mut store[..n],
+            &signatures,
+            &platforms,
+            candidate,
+            9,
+            &mut destination,
+        );
+        reply.answer
+    } else {
+        answer::refuse(0, 0)
+    }
+}
+
+// Fills the blocks of update `i` with FFh if a set has it.
+fn empty_update(buf: &mut [u8], l: Layout, set: Set, i: usize) {
+    if i < 4 {
+        if set.has[i] {
+            let start = l.starts[i];
+            let size = l.sizes[i];
+            bytes::fill(buf, layout::bytes(start) as usize, layout::bytes(size), 255);
+        }
+    }
+}
+
+// Fills the blocks of all updates of a set with FFh.
+fn empty_all(buf: &mut [u8], l: Layout, set: Set) {
+    let mut i: usize = 0;
+    while i < 4 {
+        empty_update(buf, l, set, i);
+        i += 1;
+    }
+}
+
+// Puts a candidate of T bytes at a start, and FFh behind it to the end of its run of `n` blocks.
+fn put_candidate(buf: &mut [u8], start: u32, candidate: &[u8], t: u32, n: u32) {
+    bytes::fill(buf, layout::bytes(start) as usize, layout::bytes(n), 255);
+    bytes::put(buf, layout::bytes(start) as usize, candidate, t);
+}
+
+// Whether two buffers have the same first `n` bytes.
+fn same(a: &[u8], b: &[u8], n: usize) -> bool {
+    let mut i: usize = 0;
+    while i < n {
+        if i >= a.len() || i >= b.len() {
+            return false;
+        }
+        if a[i] != b[i] {
+            return false;
+        }
+        i += 1;
+    }
+    true
+}
+
+// An answer compared with the best outcome.
+fn judged(answer: Answer, l: Layout, o: Outcome) -> Seen {
+    match answer {
+        Answer::Written(w) => Seen {
+            same: o.found && w.start == o.start && w.emptied == o.emptied,
+            written: true,
+            number: w.emptied,
+        },
+        Answer::Refused(r) => {
+            let al = if layout::torn(l) { 4 } else { 5 };
+            Seen {
+                same: !o.found && r.ah == 0x93 && r.al == al && r.status == 0,
+                written: false,
+                number: r.al as u32,
+            }
+        }
+        Answer::Presence(_) => Seen {
+            same: false,
+            written: false,
+            number: 0,
+        },
+        Answer::Control(_) => Seen {
+            same: false,
+            written: false,
+            number: 0,
+        },
+        Answer::Read(_) => Seen {
+            same: false,
+            written: false,
+            number: 0,
+        },
+    }
+}
+
+// Makes the store and the bytes of the best outcome, or the same bytes where there is none.
+fn prepare(
+    store: &mut [u8],
+    wanted: &mut [u8],
+    l: Layout,
+    o: Outcome,
+    candidate: &[u8],
+    t: u32,
+    n: u32,
+) {
+    make::store(store, l);
+    bytes::put(wanted, 0, store, 12288);
+    if o.found {
+        let set = o.set;
+        empty_all(wanted, l, set);
+        put_candidate(wanted, o.start, candidate, t, n);
+    }
+}
+
+// The write of a candidate of T bytes, which takes `n` blocks, to the store of a layout.
+pub fn trial(
+    store: &mut [u8],
+    wanted: &mut [u8],
+    l: Layout,
+    candidate: &[u8],
+    t: u32,
+    n: u32,
+) -> Seen {
+    let o = outcomes::best(l, n);
+    prepare(store, wanted, l, o, candidate, t, n);
+    let answer = call(store, layout::bytes(l.blocks) as usize, candidate);
+    let mut seen = judged(answer, l, o);
+    if !same(store, wanted, 12288) {
+        seen.same = false;
+    }
+    seen
+}

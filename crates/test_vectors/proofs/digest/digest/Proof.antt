@@ -1,0 +1,49 @@
+-- `test_vectors::digest::digest` meets its contract. The invariant of both loops: `h` is the digest of the bytes passed.
+use mathlib.Core.Path.{_≡_}
+use Prim.Native.Nat.{_≤_, _<_, _-_}
+use borrow.Author.Needs.{needs}
+use Rattle.test_vectors.specs.Digest.{digestTo, digest-none, digest-next, digest-four, digest-all}
+use Rattle.test_vectors.proofs.digest.digest.Statement.{statement}
+use Rattle.test_vectors.proofs.digest.digest.Tie as tie
+
+abbrev Inv-loop : tie.InvT-loop
+Inv-loop s n h₀ i₀ h i = (i ≤ n) × (h < 4294967291) × (h ≡ digestTo s i)
+
+abbrev μ-loop : tie.MeasureT-loop
+μ-loop s n h₀ i₀ h i = n - i
+
+abbrev Inv-loop2 : tie.InvT-loop2
+Inv-loop2 s n h₀ i₀ h i = (i ≤ n) × (h < 4294967291) × (h ≡ digestTo s i)
+
+abbrev μ-loop2 : tie.MeasureT-loop2
+μ-loop2 s n h₀ i₀ h i = n - i
+
+pub digest-spec : {M : Type 1} → statement M
+digest-spec =
+    tie.close
+    (tie.spec
+    Inv-loop
+    μ-loop
+    Inv-loop2
+    μ-loop2
+    (λ c. search (needs, digest-none))
+    (λ c. search needs)
+    (λ c. search needs)
+    (λ c. search needs)
+    (λ c. search needs)
+    (λ c. search needs)
+    (λ c. search needs)
+    (λ c. search needs)
+    (λ c. search needs)
+    (λ c κs. search needs)
+    (λ c. search needs)
+    (λ c. search needs)
+    (λ c. (search needs, search needs, digest-four _ _ _ _ (c .four .ensures .0) (c .before .before .before .before .before .before .loop .inv .2)))
+    (λ c. search needs)
+    (λ c. search needs)
+    (λ c κs. search needs)
+    (λ c. search needs)
+    (λ c. search needs)
+    (λ c. search (needs, digest-next))
+    (λ c. search needs)
+    (λ c. search (needs, digest-all)))

@@ -1,0 +1,31 @@
+-- `test_vectors::run::run` is safe and ends: `i` grows to a million, and the lengths stay within the buffers.
+use Prim.Native.Nat.{_-_}
+use borrow.Author.Needs.{needs}
+use Rattle.test_vectors.specs.Within.{Within}
+use Rattle.test_vectors.proofs.run.run.Statement.{statement}
+use Rattle.test_vectors.proofs.run.run.Tie as tie
+
+abbrev Inv-loop : tie.InvT-loop
+Inv-loop store₀ candidate₀ destination₀ signatures₀ platforms₀ s₀ i₀ store candidate destination signatures platforms s i = Within s
+
+abbrev μ-loop : tie.MeasureT-loop
+μ-loop store₀ candidate₀ destination₀ signatures₀ platforms₀ s₀ i₀ store candidate destination signatures platforms s i = 1000000 - i
+
+pub run-spec : {M : Type 1} → statement M
+run-spec =
+    tie.close
+    (tie.spec
+    Inv-loop
+    μ-loop
+    (λ c κs. search needs)
+    (λ c. search needs)
+    (λ c κs. search needs)
+    (λ c. search needs)
+    (λ c κs. search needs)
+    (λ c. search needs)
+    (λ c. search needs)
+    (λ c. search needs)
+    (λ c. search needs)
+    (λ c κs. search needs)
+    (λ c κs. search needs)
+    (λ c. search needs))

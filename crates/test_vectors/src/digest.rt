@@ -1,0 +1,36 @@
+// A digest of bytes: 1, then for each byte 31 times what was, plus the byte, modulo 2^32 - 5.
+ghost use mathlib.Core.Path.{_≡_};
+ghost use Prim.Native.Nat.{_<_};
+ghost use Rattle.test_vectors.specs.Digest.{digestStep, digest};
+
+fn step(h: u64, b: u8) -> u64
+    requires { ⌜ h < 4294967291 ⌝ }
+    ensures { λ r. ⌜ (r ≡ digestStep h b) × (r < 4294967291) ⌝ }
+{
+    (h * 31 + b as u64) % 4294967291
+}
+
+// Four steps with one division.
+fn four(h: u64, a: u8, b: u8, c: u8, d: u8) -> u64
+    requires { ⌜ h < 4294967291 ⌝ }
+    ensures { λ r. ⌜ (r ≡ digestStep (digestStep (digestStep (digestStep h a) b) c) d) × (r < 4294967291) ⌝ }
+{
+    (h * 923521 + (a as u64) * 29791 + (b as u64) * 961 + (c as u64) * 31 + d as u64) % 4294967291
+}
+
+pub fn digest(s: &[u8]) -> u32
+    ensures { λ r. ⌜ r ≡ digest (now (s .entry)) ⌝ }
+{
+    let n = s.len();
+    let mut h: u64 = 1;
+    let mut i: usize = 0;
+    while n - i >= 4 {
+        h = four(h, s[i], s[i + 1], s[i + 2], s[i + 3]);
+        i += 4;
+    }
+    while i < n {
+        h = step(h, s[i]);
+        i += 1;
+    }
+    h as u32
+}

@@ -1,0 +1,133 @@
+// The held updates against a run of blocks. `k` is the number of blocks that the candidate takes, `s` a start block.
+ghost use mathlib.Core.Path.{_≡_};
+ghost use mathlib.Core.Bool.{false, _&&_};
+ghost use mathlib.Core.List.{[]};
+ghost use Prim.Native.Nat.{_≤_};
+ghost use Rattle.laws.specs.Below.{anyBelow};
+ghost use Rattle.laws.specs.Count.{countBelow};
+ghost use Rattle.laws.specs.Arrays.{Filled, markAt};
+ghost use Rattle.write_marks.specs.Against.{fills, barred, lost};
+ghost use Rattle.write_marks.specs.Capped.{capped};
+ghost use Rattle.write_marks.specs.StoredMarks.{held, marksOf, bothAt};
+
+// The stored updates in the order of their starts: update i < count starts at a block, has a size in blocks, and two marks against the
+// candidate: it covers a processor that the candidate covers; it covers a listed processor that the candidate doesn't.
+pub struct Marked {
+    pub starts: [u8; 32],
+    pub sizes: [u8; 32],
+    pub shares: [bool; 32],
+    pub keeps: [bool; 32],
+    pub count: usize,
+}
+
+// Does some update rule the start out?
+pub fn barred<'a>(
+    starts: &'a [u8; 32],
+    sizes: &'a [u8; 32],
+    shares: &'a [bool; 32],
+    keeps: &'a [bool; 32],
+    count: usize,
+    k: u32,
+    s: u32,
+) -> bool
+    requires { ⌜ count ≤ 32 ⌝ }
+    ensures { λ r. ⌜ r ≡ barred (held (marksOf (now (starts .entry)) (now (sizes .entry)) (now (shares .entry)) (now (keeps .entry)) count)) k s ⌝ }
+{
+    let mut i: usize = 0;
+    while i < count {
+        if write_overlap::bars(starts[i], sizes[i], shares[i], keeps[i], k, s) {
+            return true;
+        }
+        i += 1;
+    }
+    false
+}
+
+// How many updates that do not share does the run touch, up to `limit`? Whether they are needed doesn't matter here.
+pub fn lost<'a>(
+    starts: &'a [u8; 32],
+    sizes: &'a [u8; 32],
+    shares: &'a [bool; 32],
+    count: usize,
+    k: u32,
+    s: u32,
+    limit: u32,
+) -> u32
+    requires { ⌜ count ≤ 32 ⌝ }
+    ensures { λ r. ⌜ r ≡ capped limit (lost (held (marksOf (now (starts .entry)) (now (sizes .entry)) (now (shares .entry)) [] count)) k s) ⌝ }
+{
+    let mut touched: u32 = 0;
+    let mut i: usize = 0;
+    while i < count {
+        if write_overlap::loses(starts[i], sizes[i], shares[i], k, s) {
+            if limit <= touched + 1 {
+                return limit;
+            }
+            touched += 1;
+            i += 1;
+        } else {
+            i += 1;
+        }
+    }
+    touched
+}
+
+fn both(a: bool, b: bool) -> bool
+    ensures { λ r. ⌜ r ≡ a && b ⌝ }
+{
+    if a { b } else { false }
+}
+
+// Has some update both marks? Then it rules every start out.
+pub fn torn<'a>(shares: &'a [bool; 32], keeps: &'a [bool; 32], count: usize) -> bool
+    requires { ⌜ count ≤ 32 ⌝ }
+    ensures { λ r. ⌜ r ≡ anyBelow count (bothAt (now (shares .entry)) (now (keeps .entry))) ⌝ }
+{
+    let mut i: usize = 0;
+    while i < count {
+        if both(shares[i], keeps[i]) {
+            return true;
+        }
+        i += 1;
+    }
+    false
+}
+
+// How many updates share?
+pub fn shared(shares: &[bool; 32], count: usize) -> u32
+    requires { ⌜ count ≤ 32 ⌝ }
+    ensures { λ r. ⌜ r ≡ countBelow count (markAt (now (shares .entry))) ⌝ }
+{
+    let mut sharing: u32 = 0;
+    let mut i: usize = 0;
+    while i < count {
+        let at = i;
+        i += 1;
+        if shares[at] {
+            sharing += 1;
+        }
+    }
+    sharing
+}
+
+// Marks the updates that must be filled with FFh if the candidate goes to `s`: those that are emptied, but for those that the run overwrites
+// whole.
+pub fn to_fill<'a>(
+    starts: &'a [u8; 32],
+    sizes: &'a [u8; 32],
+    shares: &'a [bool; 32],
+    count: usize,
+    k: u32,
+    s: u32,
+) -> [bool; 32]
+    requires { ⌜ count ≤ 32 ⌝ }
+    ensures { λ r. ⌜ Filled false 32 (fills (held (marksOf (now (starts .entry)) (now (sizes .entry)) (now (shares .entry)) [] count)) k s) count r ⌝ }
+{
+    let mut marks = [false; 32];
+    let mut i: usize = 0;
+    while i < count {
+        marks[i] = write_overlap::fills(starts[i], sizes[i], shares[i], k, s);
+        i += 1;
+    }
+    marks
+}
