@@ -13,7 +13,7 @@ use Rattle.store_blocks.specs.Blocks.{blockCount, fromBlock}
 use Rattle.store_directory.specs.Scan.{storeOk}
 use Rattle.store_directory.specs.Kind.{kindAt}
 use Rattle.store_directory.specs.declared.kind.Kind.{Kind}
-use Rattle.store_directory.specs.declared.kind.Kind.the-variants.{Free, First, Later}
+use Rattle.store_directory.specs.declared.kind.Kind.the-variants.{Unused, First, Later}
 use Rattle.call_answers.specs.Answers.{refusal}
 use Rattle.call_answers.specs.declared.answer.Answer.{Answer}
 use Rattle.call_answers.specs.declared.answer.Answer.the-variants.{Presence, Written, Control, Read, Refused}
@@ -22,7 +22,7 @@ unfoldable pub readBlocks : ℕ → ℕ → Answer
 readBlocks k m = unless (leb (k * 2048) m) (refusal 0x92 3) (Read (record { blocks = k }))
 
 unfoldable pub readKind : Kind → ℕ → Answer
-readKind Free m = readBlocks 1 m
+readKind Unused m = readBlocks 1 m
 readKind (First k) m = readBlocks k m
 readKind Later m = refusal 0x9A 0
 

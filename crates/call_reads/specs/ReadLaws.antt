@@ -22,7 +22,7 @@ use Rattle.store_directory.specs.declared.Directory.{Directory}
 use Rattle.store_blocks.specs.declared.slot.Slot.{Slot}
 use Rattle.store_blocks.specs.declared.slot.Slot.the-variants.{Unused, Update, Bad}
 use Rattle.store_directory.specs.declared.kind.Kind.{Kind}
-use Rattle.store_directory.specs.declared.kind.Kind.the-variants.{Free, First, Later}
+use Rattle.store_directory.specs.declared.kind.Kind.the-variants.{Unused, First, Later}
 use Rattle.call_answers.specs.Answers.{refusal}
 use Rattle.call_answers.specs.declared.answer.Answer.{Answer}
 use Rattle.call_answers.specs.declared.answer.Answer.the-variants.{Read}
@@ -30,7 +30,7 @@ use Rattle.call_reads.specs.Read.{readBlocks, readKind, readAnswer, bloc
 
 -- the answer by the kind, where r is the kind that a call gave
 module _ (r : Kind) (m : ℕ) (z : Answer) where
-  pub kind-free : r ≡ Free → z ≡ readBlocks 1 m → z ≡ readKind r m
+  pub kind-free : r ≡ Unused → z ≡ readBlocks 1 m → z ≡ readKind r m
   unfolding readKind
   kind-free h k = rw h k
 
@@ -80,7 +80,7 @@ module _ (s : List ℕ) (b m : ℕ) where
 
   kind-fits : (x : Kind) → blocksRead (readKind x m) * 2048 ≤ m
   unfolding readKind
-  kind-fits Free = blocks-fit 1
+  kind-fits Unused = blocks-fit 1
   kind-fits (First k) = blocks-fit k
   kind-fits Later = omega arith
 

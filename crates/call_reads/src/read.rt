@@ -23,7 +23,7 @@ fn read_kind(kind: Kind, lent: usize) -> Answer
     ensures { λ r. ⌜ r ≡ readKind kind lent ⌝ }
 {
     match kind {
-        Kind::Free => read_blocks(1, lent),
+        Kind::Unused => read_blocks(1, lent),
         Kind::First { blocks } => read_blocks(blocks, lent),
         Kind::Later => answer::refuse(0x9A, 0),
     }

@@ -20,7 +20,7 @@ use Rattle.store_blocks.specs.Blocks.{fromBlock, blockCount}
 use Rattle.store_directory.specs.Scan.{storeOk}
 use Rattle.store_directory.specs.Kind.{kindAt}
 use Rattle.store_directory.specs.declared.kind.Kind.{Kind}
-use Rattle.store_directory.specs.declared.kind.Kind.the-variants.{Free, First, Later}
+use Rattle.store_directory.specs.declared.kind.Kind.the-variants.{Unused, First, Later}
 use Rattle.report_text.specs.Digits.{decimal, hex8}
 
 abbrev pub space : List ℕ
@@ -48,7 +48,7 @@ abbrev pub catalogueLine : List ℕ → ℕ → ℕ → List ℕ
 catalogueLine s b k = lineOf b k (revision (fromBlock s b)) (platformCount (fromBlock s b)) (lowestPlatform (fromBlock s b))
 
 unfoldable pub kindLine : List ℕ → ℕ → Kind → List ℕ
-kindLine s b Free = []
+kindLine s b Unused = []
 kindLine s b (First k) = catalogueLine s b k
 kindLine s b Later = []
 
@@ -61,7 +61,7 @@ linesTo s (suc b) = linesTo s b ++ blockLine s b
 
 -- 1 of an unused block, 0 of any other
 unfoldable pub oneIfFree : Kind → ℕ
-oneIfFree Free = 1
+oneIfFree Unused = 1
 oneIfFree (First k) = 0
 oneIfFree Later = 0
 

@@ -19,7 +19,7 @@ use Rattle.store_directory.specs.SlotLaws.{ends-inside}
 use Rattle.store_directory.specs.KindLaws.{first-update}
 use Rattle.store_directory.specs.ValidLaws.{store-valid}
 use Rattle.store_directory.specs.declared.kind.Kind.{Kind}
-use Rattle.store_directory.specs.declared.kind.Kind.the-variants.{Free, First, Later}
+use Rattle.store_directory.specs.declared.kind.Kind.the-variants.{Unused, First, Later}
 use Rattle.report_catalogue.specs.Catalogue.{lineOf, kindLine, blockLine}
 use Rattle.report_text.specs.Texts.{Added, added-none}
 use Rattle.report_text.specs.declared.Text.{Text}
@@ -45,7 +45,7 @@ module _ (s : List ℕ) (b : ℕ) (ok : storeOk s ≡ true) where
 
 -- kind is the local that holds the kind of block b
 module _ (s : List ℕ) (b : ℕ) (kind : Kind) (e : kind ≡ kindAt s b) (t : Text) where
-  pub line-free : kind ≡ Free → Added t t (blockLine s b) 21
+  pub line-free : kind ≡ Unused → Added t t (blockLine s b) 21
   unfolding kindLine
   line-free f = rw (← e, f) (added-none t 21)
 

@@ -37,7 +37,7 @@ pub fn block_line(t: Text, s: &[u8], b: u32, kind: Kind) -> Text
     ensures { λ r. ⌜ Added t r (blockLine (now (s .entry)) b) 21 ⌝ }
 {
     match kind {
-        Kind::Free => t,
+        Kind::Unused => t,
         Kind::First { blocks: size } => {
             let u = store_blocks::from_block(s, b);
             line(
@@ -58,7 +58,7 @@ pub fn one_if_free(kind: Kind) -> u32
     ensures { λ r. ⌜ (r ≡ oneIfFree kind) × (r ≤ 1) ⌝ }
 {
     match kind {
-        Kind::Free => 1,
+        Kind::Unused => 1,
         Kind::First { blocks: _ } => 0,
         Kind::Later => 0,
     }

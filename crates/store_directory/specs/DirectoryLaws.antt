@@ -103,11 +103,11 @@ module _ (s : List ℕ) (ok : storeOk s ≡ true) where
         (eq-or-lt-of-le (o .from))
 
     -- a block that no update owns is unused
-    pub kind-free : ((a : ℕ) → Owned s (first s) a b → ⊥) → kinds.Free ≡ kindAt s b
+    pub kind-free : ((a : ℕ) → Owned s (first s) a b → ⊥) → kinds.Unused ≡ kindAt s b
     unfolding kindAt sound first
     kind-free none = let h = home s b in go (h .0) (h .1) (h .2) (h .3) (slotAt s (h .0)) refl (all-at (sound s) (blockCount s) (h .0) (layout-sound s (blockCount s) (first s) (valid .layout)) (omega (arith, h .2)))
       where
-        go : (a : ℕ) → begins s a ≡ true → a ≤ b → b < a + sizeAt s a → (x : Slot) → slotAt s a ≡ x → not (begins s a && isBad (slotAt s a)) ≡ true → kinds.Free ≡ kindOf (begins s b) (slotAt s b)
+        go : (a : ℕ) → begins s a ≡ true → a ≤ b → b < a + sizeAt s a → (x : Slot) → slotAt s a ≡ x → not (begins s a && isBad (slotAt s a)) ≡ true → kinds.Unused ≡ kindOf (begins s b) (slotAt s b)
         go a g p q Unused y k = let f : a ≡ b = omega (arith, rw y at q) in rw (← f, g, y)
         go a g p q (Update j) y k = absurd (none a (record { at = rw (g, y); from = p; upto = q }))
         go a g p q Bad y k = absurd (true≢false (sym (rw (g, y) at k)))
@@ -116,7 +116,7 @@ module _ (s : List ℕ) (ok : storeOk s ≡ true) where
     unfolding kindIn kindBy
     kind-law = let f = first-is (d .count) (ownsAt d b) in go (firstBelow (d .count) (ownsAt d b)) f (ltb (firstBelow (d .count) (ownsAt d b)) (d .count)) refl
       where
-        go : (i : ℕ) → First (d .count) (ownsAt d b) i → (t : Bool) → ltb i (d .count) ≡ t → cond t (kindIf (startOf d i) (sizeOf d i) b) kinds.Free ≡ kindAt s b
+        go : (i : ℕ) → First (d .count) (ownsAt d b) i → (t : Bool) → ltb i (d .count) ≡ t → cond t (kindIf (startOf d i) (sizeOf d i) b) kinds.Unused ≡ kindAt s b
         go i f true q =
             let m = ltb-true i (d .count) q in
             rw (entries .sized i m) (kind-owned (startOf d i) (owned i m (f .passes m)))

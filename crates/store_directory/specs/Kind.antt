@@ -19,13 +19,13 @@ use Rattle.store_directory.specs.Scan.{slotAt, begins}
 use Rattle.store_blocks.specs.declared.slot.Slot.{Slot}
 use Rattle.store_blocks.specs.declared.slot.Slot.the-variants.{Unused, Update, Bad}
 use Rattle.store_directory.specs.declared.kind.Kind.{Kind}
-use Rattle.store_directory.specs.declared.kind.Kind.the-variants.{Free, First, Later}
+use Rattle.store_directory.specs.declared.kind.Kind.the-variants.{Unused as UnusedBlock, First, Later}
 use Rattle.store_directory.specs.declared.Directory.{Directory}
 
 -- what the reading makes of a block: one at which it reads no slot is a later block of an update. A bad slot stands in no valid store, so any
 -- kind would do for it.
 abbrev pub kindOf : Bool → Slot → Kind
-kindOf true Unused = Free
+kindOf true Unused = UnusedBlock
 kindOf true (Update k) = First k
 kindOf true Bad = Later
 kindOf false x = Later
@@ -42,7 +42,7 @@ kindIf start size b = cond (eqb start b) (First size) Later
 
 -- of the first entry that has it
 unfoldable pub kindBy : Directory → ℕ → ℕ → Kind
-kindBy d b i = cond (ltb i (d .count)) (kindIf (getD (d .starts) i 0) (getD (d .sizes) i 0) b) Free
+kindBy d b i = cond (ltb i (d .count)) (kindIf (getD (d .starts) i 0) (getD (d .sizes) i 0) b) UnusedBlock
 
 unfoldable pub kindIn : Directory → ℕ → Kind
 kindIn d b = kindBy d b (firstBelow (d .count) (ownsAt d b))
@@ -59,7 +59,7 @@ module _ (d : Directory) (b i : ℕ) (none : anyBelow i (ownsAt d b) ≡ false) 
   unfolding ownsAt
   kind-next start size r e f h k = any-more (ownsAt d b) i none (rw (← e, ← f) (sym h ∙ k))
 
-  pub kind-none : i ≤ d .count → d .count ≤ i → Free ≡ kindIn d b
+  pub kind-none : i ≤ d .count → d .count ≤ i → UnusedBlock ≡ kindIn d b
   unfolding kindIn kindBy
   kind-none l m =
       let q : i ≡ d .count = omega arith in

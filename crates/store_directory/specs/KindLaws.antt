@@ -15,7 +15,7 @@ use Rattle.store_directory.specs.Valid.{Owned}
 use Rattle.store_directory.specs.LayoutLaws.{first-parts, begins-outside}
 use Rattle.store_blocks.specs.declared.slot.Slot.{Slot}
 use Rattle.store_blocks.specs.declared.slot.Slot.the-variants.{Unused, Update, Bad}
-use Rattle.store_directory.specs.declared.kind.Kind.the-variants.{Free, First}
+use Rattle.store_directory.specs.declared.kind.Kind.the-variants.{Unused as UnusedBlock, First}
 
 pub first-update : (t : Bool) (x : Slot) (k : ℕ) → kindOf t x ≡ First k → x ≡ Update k
 first-update true Unused k e = absurd (let z : _≡_ {A = ℕ} 0 1 = cc in omega arith)
@@ -23,12 +23,12 @@ first-update true (Update j) k e = cc
 first-update true Bad k e = absurd (let z : _≡_ {A = ℕ} 0 1 = cc in omega arith)
 first-update false x k e = absurd (let z : _≡_ {A = ℕ} 0 1 = cc in omega arith)
 
-module _ (s : List ℕ) (c : ℕ) (h : kindAt s c ≡ Free) where
+module _ (s : List ℕ) (c : ℕ) (h : kindAt s c ≡ UnusedBlock) where
   pub free-parts : (begins s c ≡ true) × (slotAt s c ≡ Unused)
   unfolding kindAt
   free-parts = go (begins s c) refl (slotAt s c) refl h
     where
-      go : (t : Bool) → begins s c ≡ t → (x : Slot) → slotAt s c ≡ x → kindOf t x ≡ Free → (begins s c ≡ true) × (slotAt s c ≡ Unused)
+      go : (t : Bool) → begins s c ≡ t → (x : Slot) → slotAt s c ≡ x → kindOf t x ≡ UnusedBlock → (begins s c ≡ true) × (slotAt s c ≡ Unused)
       go true p Unused q k = (p, q)
       go true p (Update j) q k = absurd (let z : _≡_ {A = ℕ} 0 1 = cc in omega arith)
       go true p Bad q k = absurd (let z : _≡_ {A = ℕ} 0 1 = cc in omega arith)

@@ -7,7 +7,7 @@ use crate::Directory;
 
 pub enum Kind {
     // in no update
-    Free,
+    Unused,
     // the first block of an update of so many blocks
     First { blocks: u32 },
     // a later block of an update
@@ -48,5 +48,5 @@ pub fn block_kind(d: Directory, b: u32) -> Kind
         }
         i += 1;
     }
-    Kind::Free
+    Kind::Unused
 }

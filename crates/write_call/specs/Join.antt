@@ -20,7 +20,7 @@ use Rattle.store_directory.specs.Scan.{first, storeOk, directory}
 use Rattle.store_directory.specs.Kind.{kindAt}
 use Rattle.store_directory.specs.Valid.{Owned}
 use Rattle.store_directory.specs.DirectoryLaws.{startOf, Listing, listing, kind-free}
-use Rattle.store_directory.specs.declared.kind.Kind.the-variants.{Free}
+use Rattle.store_directory.specs.declared.kind.Kind.the-variants.{Unused}
 use Rattle.write_marks.specs.Held.{Held, Holds}
 use Rattle.write_placement.specs.LegalByNumber.{Legal as LegalRun}
 use Rattle.write_marks.specs.Against.{touches, goes as goesNumber}
@@ -50,7 +50,7 @@ module _ (old signatures platforms cand : List ℕ) (ok : storeOk old ≡ true) 
   unfolding heldIn
   owned-holds i b c l e o = record { from = rw e (o .from); upto = rw (entries .sized i l) (rw e (o .upto)) }
 
-  unheld-free : (c : ℕ) → c < blockCount old → ((i : ℕ) → i < h .count → Holds h i c → ⊥) → kindAt old c ≡ Free
+  unheld-free : (c : ℕ) → c < blockCount old → ((i : ℕ) → i < h .count → Holds h i c → ⊥) → kindAt old c ≡ Unused
   unfolding heldIn
   unheld-free c l none =
       sym (kind-free old ok (directory old) refl c l (λ b o.
@@ -67,7 +67,7 @@ module _ (old signatures platforms cand : List ℕ) (ok : storeOk old ≡ true) 
     legal-numbers legal = record {
       ends = legal .ends;
       free = λ c p q. ⊎-elim
-          (λ (w : kindAt old c ≡ Free). inl (λ i l x. free-unowned old c w (h .start i) (holds-owned i c l x)))
+          (λ (w : kindAt old c ≡ Unused). inl (λ i l x. free-unowned old c w (h .start i) (holds-owned i c l x)))
           (λ (w : (b : ℕ) × (e b ≡ true) × Owned old (first old) b c).
           let i = entries .every (w .0) (omega (arith, legal .ends, w .2 .from)) (w .2 .at) in
           inr (i .0, i .1, owned-holds (i .0) (w .0) c (i .1) (i .2) (w .2), ap e (i .2) ∙ w .1))
