@@ -41,7 +41,7 @@ use Rattle.write_outcome.specs.KeptLaws.{kept-parts, kept-made, kept-update}
 use Rattle.call_answers.specs.declared.answer.Written.{Written as WrittenNumbers}
 use Rattle.call_answers.specs.declared.answer.Refused.{Refused as RefusedNumbers}
 use Rattle.call_answers.specs.declared.answer.Answer.the-variants as answers
-use Rattle.write_call.specs.Write.{goes, bytesAfter, writeAnswer, writeBytes}
+use Rattle.write_call.specs.Write.{emptiedAt, bytesAfter, writeAnswer, writeBytes}
 use Rattle.write_call.specs.Planned.{Planned, plan-written}
 use Rattle.processor_list.specs.ListLaws.{good-list}
 use Rattle.write_call.specs.Chosen.{planned-best}
@@ -158,25 +158,25 @@ module _ (old signatures platforms cand : List ℕ) (back : ℕ) where
     plan : Planned old signatures platforms cand a
     plan = plan-written old signatures platforms cand a (answer-plan old signatures platforms cand back a w)
 
-    legal : Legal old signatures platforms cand (totalSize cand) (a .start) (goes old cand (a .start))
+    legal : Legal old signatures platforms cand (totalSize cand) (a .start) (emptiedAt old cand (a .start))
     legal = planned-best old signatures platforms cand a plan .legal
 
-    left : After old new cand (totalSize cand) (plan .data) (plan .entries) (blocksOf (totalSize cand)) (a .start) (goes old cand (a .start))
+    left : After old new cand (totalSize cand) (plan .data) (plan .entries) (blocksOf (totalSize cand)) (a .start) (emptiedAt old cand (a .start))
     unfolding writeBytes bytesAfter
     left =
         rw w
-        (outcome-after old signatures platforms cand (totalSize cand) (plan .data) (plan .entries) (blocksOf (totalSize cand)) (a .start) (goes old cand (a .start))
+        (outcome-after old signatures platforms cand (totalSize cand) (plan .data) (plan .entries) (blocksOf (totalSize cand)) (a .start) (emptiedAt old cand (a .start))
         (plan .store) (plan .good) legal)
 
     pub load-candidate : (x p : ℕ) → covers cand x p ≡ true
         → (loadChoice true new x p ≡ Chosen (a .start) (revision cand)) × (chosenData new (Chosen (a .start) (revision cand)) ≡ dataPart cand)
     load-candidate =
-        gets-candidate old signatures platforms cand new (totalSize cand) (plan .data) (plan .entries) (blocksOf (totalSize cand)) (a .start) (goes old cand (a .start))
+        gets-candidate old signatures platforms cand new (totalSize cand) (plan .data) (plan .entries) (blocksOf (totalSize cand)) (a .start) (emptiedAt old cand (a .start))
         (plan .store) (plan .good) legal left
 
     pub load-kept : (x p : ℕ) → Listed signatures platforms x p → covers cand x p ≡ false → SameLoad old new x p
     load-kept x p y =
-        gets-kept old signatures platforms cand new (totalSize cand) (plan .data) (plan .entries) (blocksOf (totalSize cand)) (a .start) (goes old cand (a .start))
+        gets-kept old signatures platforms cand new (totalSize cand) (plan .data) (plan .entries) (blocksOf (totalSize cand)) (a .start) (emptiedAt old cand (a .start))
         (plan .store) (plan .good) legal left x p (listed-platform signatures platforms x p (plan .list) y) y
 
     pub loads-after : LoadsAfter old signatures platforms cand (a .start) new

@@ -4,10 +4,10 @@
 --   Listed          the processor of signature x and platform p is listed: present, in the words of demand 3
 --   coversListed    the update covers listed processor i
 --   coversOne       the update covers some listed processor
---   keepsListed     the update covers listed processor i, and the candidate doesn't
---   keeping         the update covers a listed processor that the candidate doesn't cover
---   Keeps           the same in words; `keeps-law` joins the two
---   unshared-keeps  of an update that doesn't share: it covers some listed processor
+--   neededFor     the update covers listed processor i, and the candidate doesn't
+--   isNeeded         the update covers a listed processor that the candidate doesn't cover
+--   Needed           the same in words; `needed-law` joins the two
+--   unshared-needed  of an update that doesn't share: it covers some listed processor
 use Prim.Native.Nat.{ℕ, _<_}
 use mathlib.Core.Path.{_≡_, refl, sym, _∙_}
 use mathlib.Core.Bool.{Bool, true, false, not, _&&_, true≢false}
@@ -46,24 +46,24 @@ unfoldable pub coversOne : List ℕ → List ℕ → List ℕ → Bool
 coversOne signatures platforms u = anyBelow (length signatures) (coversListed signatures platforms u)
 
 -- the update u covers listed processor i, and the candidate doesn't
-unfoldable pub keepsListed : List ℕ → List ℕ → List ℕ → List ℕ → ℕ → Bool
-keepsListed signatures platforms cand u i = coversListed signatures platforms u i && not (coversListed signatures platforms cand i)
+unfoldable pub neededFor : List ℕ → List ℕ → List ℕ → List ℕ → ℕ → Bool
+neededFor signatures platforms cand u i = coversListed signatures platforms u i && not (coversListed signatures platforms cand i)
 
-unfoldable pub keeping : List ℕ → List ℕ → List ℕ → List ℕ → Bool
-keeping signatures platforms cand u = anyBelow (length signatures) (keepsListed signatures platforms cand u)
+unfoldable pub isNeeded : List ℕ → List ℕ → List ℕ → List ℕ → Bool
+isNeeded signatures platforms cand u = anyBelow (length signatures) (neededFor signatures platforms cand u)
 
-pub record Keeps (signatures platforms cand u : List ℕ) : Type 0 where
+pub record Needed (signatures platforms cand u : List ℕ) : Type 0 where
   pub signature : ℕ
   pub platform : ℕ
   pub listed : Listed signatures platforms signature platform
   pub covered : covers u signature platform ≡ true
   pub uncovered : covers cand signature platform ≡ false
 
-pub keeps-law : (signatures platforms cand u : List ℕ) → (keeping signatures platforms cand u ≡ true) ↔ Keeps signatures platforms cand u
-unfolding keeping keepsListed coversListed
-keeps-law signatures platforms cand u = (
+pub needed-law : (signatures platforms cand u : List ℕ) → (isNeeded signatures platforms cand u ≡ true) ↔ Needed signatures platforms cand u
+unfolding isNeeded neededFor coversListed
+needed-law signatures platforms cand u = (
   λ h.
-      let i = any-at (keepsListed signatures platforms cand u) (length signatures) h in
+      let i = any-at (neededFor signatures platforms cand u) (length signatures) h in
       let a = and-parts (coversListed signatures platforms u (i .0)) (not (coversListed signatures platforms cand (i .0))) (i .2) in
       record {
         signature = getD signatures (i .0) 0;
@@ -74,7 +74,7 @@ keeps-law signatures platforms cand u = (
       },
   λ k.
       let l = k .listed in
-      any-stop (keepsListed signatures platforms cand u) (length signatures) (l .number) (l .within)
+      any-stop (neededFor signatures platforms cand u) (length signatures) (l .number) (l .within)
       (rw (l .signature, l .platform, k .covered, k .uncovered)),
 )
 
@@ -85,8 +85,8 @@ unshared-one cand u x p h true e =
     rw (no-true (covers cand x p) (λ c.
     true≢false (sym (shares-law u cand .1 (record { signature = x; platform = p; processor = covers-platform u x p e; left = e; right = c })) ∙ h)))
 
-pub unshared-keeps : (signatures platforms cand u : List ℕ) → shares u cand ≡ false → keeping signatures platforms cand u ≡ coversOne signatures platforms u
-unfolding keeping keepsListed coversOne coversListed
-unshared-keeps signatures platforms cand u h =
-    any-cong (keepsListed signatures platforms cand u) (coversListed signatures platforms u) (length signatures)
+pub unshared-needed : (signatures platforms cand u : List ℕ) → shares u cand ≡ false → isNeeded signatures platforms cand u ≡ coversOne signatures platforms u
+unfolding isNeeded neededFor coversOne coversListed
+unshared-needed signatures platforms cand u h =
+    any-cong (neededFor signatures platforms cand u) (coversListed signatures platforms u) (length signatures)
     (λ i l. unshared-one cand u (getD signatures i 0) (getD platforms i 0) h (covers u (getD signatures i 0) (getD platforms i 0)) refl)

@@ -8,7 +8,7 @@ ghost use Rattle.update_coverage.specs.Covers.{pairCount};
 ghost use Rattle.laws.specs.Below.{anyBelow};
 ghost use Rattle.processor_list.specs.Processors.{platformOk, listOk, coversListed};
 ghost use Rattle.laws.specs.Arrays.{markAt};
-ghost use Rattle.processor_list.specs.Covered.{Covered, keepsBy};
+ghost use Rattle.processor_list.specs.Covered.{Covered, neededByMarks};
 use update_header::fields;
 
 fn platform_ok(platforms: &[u8], i: usize) -> bool
@@ -81,7 +81,7 @@ pub fn covers_one(marks: [bool; 8], n: usize) -> bool
     false
 }
 
-fn keeps_by(
+fn needed_for(
     signatures: &[u32],
     platforms: &[u8],
     mark: bool,
@@ -101,7 +101,7 @@ fn keeps_by(
 }
 
 // Does the update cover a listed processor that is not marked?
-pub fn keeping(
+pub fn is_needed(
     signatures: &[u32],
     platforms: &[u8],
     marks: [bool; 8],
@@ -110,11 +110,11 @@ pub fn keeping(
     n: u32,
 ) -> bool
     requires { ⌜ (length (now signatures) ≤ 8) × (length (now signatures) ≡ length (now platforms)) × (d ≡ dataSize (now u)) × (n ≡ pairCount (now u)) ⌝ }
-    ensures { λ r. ⌜ r ≡ anyBelow (length (now (signatures .entry))) (keepsBy (now (signatures .entry)) (now (platforms .entry)) marks (now (u .entry))) ⌝ }
+    ensures { λ r. ⌜ r ≡ anyBelow (length (now (signatures .entry))) (neededByMarks (now (signatures .entry)) (now (platforms .entry)) marks (now (u .entry))) ⌝ }
 {
     let mut i: usize = 0;
     while i < signatures.len() {
-        if keeps_by(signatures, platforms, marks[i], u, d, n, i) {
+        if needed_for(signatures, platforms, marks[i], u, d, n, i) {
             return true;
         }
         i += 1;

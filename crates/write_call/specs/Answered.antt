@@ -21,20 +21,20 @@ use Rattle.update_header.specs.Fields.{revision, totalSize}
 use Rattle.update_sizes.specs.Sizes.{blocksOf}
 use Rattle.update_verdict.specs.VerdictLaws.{judged, good-blocks}
 use Rattle.store_blocks.specs.Blocks.{blockCount}
-use Rattle.write_marks.specs.Held.{Held}
-use Rattle.write_marks.specs.Against.{torn}
+use Rattle.write_marks.specs.StoredUpdates.{StoredUpdates}
+use Rattle.write_marks.specs.Against.{bothMarks}
 use Rattle.write_placement.specs.Choose.{choose}
 use Rattle.write_outcome.specs.Legal.{Legal}
 use Rattle.call_answers.specs.Answers.{refusal, ahOf}
 use Rattle.call_answers.specs.declared.answer.Answer.{Answer}
 use Rattle.call_answers.specs.declared.answer.Written.{Written as WrittenNumbers}
 use Rattle.call_answers.specs.declared.answer.Answer.the-variants.{Presence, Written, Control, Read, Refused}
-use Rattle.write_plan.specs.CandidateMarks.{heldIn}
+use Rattle.write_plan.specs.CandidateMarks.{storedUpdates}
 use Rattle.write_plan.specs.Plan.{placed}
 use Rattle.write_call.specs.Write.{goodAnswer, judgedAnswer, planAnswer, readBack, writeAnswer}
 use Rattle.write_call.specs.Demand.{Passes}
 use Rattle.write_call.specs.Planned.{passed, plan-written}
-use Rattle.write_call.specs.Chosen.{chosen-none, torn-none, planned-best}
+use Rattle.write_call.specs.Chosen.{chosen-none, both-marks-none, planned-best}
 
 abbrev pub NoLegal : List ℕ → List ℕ → List ℕ → List ℕ → Type 0
 NoLegal old signatures platforms cand = (start : ℕ) (e : ℕ → Bool) → Legal old signatures platforms cand (totalSize cand) start e → ⊥
@@ -58,8 +58,8 @@ back-not-full true a e = omega arith
 back-not-full false a e = omega arith
 
 module _ (old signatures platforms cand : List ℕ) where
-  abbrev h : Held
-  h = heldIn old signatures platforms cand
+  abbrev h : StoredUpdates
+  h = storedUpdates old signatures platforms cand
 
   module _ (back : ℕ) where
     pub answer-full : (al : ℕ) → planAnswer old signatures platforms cand ≡ refusal 0x93 al → writeAnswer old signatures platforms cand back ≡ refusal 0x93 al
@@ -78,7 +78,7 @@ module _ (old signatures platforms cand : List ℕ) where
   module _ (pass : Passes old signatures platforms cand) where
     -- what is left of the plan
     passed-plan : planAnswer old signatures platforms cand
-        ≡ unless (not (anyBelow (h .count) (torn h))) (refusal 0x93 4) (placed h (choose (blockCount old) (blocksOf (totalSize cand)) h))
+        ≡ unless (not (anyBelow (h .count) (bothMarks h))) (refusal 0x93 4) (placed h (choose (blockCount old) (blocksOf (totalSize cand)) h))
     unfolding planAnswer judgedAnswer goodAnswer unless
     passed-plan =
         let g = pass .good in
@@ -87,16 +87,16 @@ module _ (old signatures platforms cand : List ℕ) where
 
     pub full-or-planned : FullOrPlanned old signatures platforms cand
     unfolding unless placed
-    full-or-planned = go (anyBelow (h .count) (torn h)) refl (choose (blockCount old) (blocksOf (totalSize cand)) h) refl passed-plan
+    full-or-planned = go (anyBelow (h .count) (bothMarks h)) refl (choose (blockCount old) (blocksOf (totalSize cand)) h) refl passed-plan
       where
         some : 1 ≤ blocksOf (totalSize cand)
         some =
             let g = pass .good in
             rw (judged cand (g .0) (g .1) (g .2) (g .3) (g .4) .total) at (good-blocks cand (g .0) (g .1) (g .2) (g .3) (g .4))
 
-        go : (t : Bool) → anyBelow (h .count) (torn h) ≡ t → (p : Pick) → choose (blockCount old) (blocksOf (totalSize cand)) h ≡ p
+        go : (t : Bool) → anyBelow (h .count) (bothMarks h) ≡ t → (p : Pick) → choose (blockCount old) (blocksOf (totalSize cand)) h ≡ p
             → planAnswer old signatures platforms cand ≡ unless (not t) (refusal 0x93 4) (placed h p) → FullOrPlanned old signatures platforms cand
-        go true q p r e = full 4 e (torn-none old signatures platforms cand (pass .store) some q)
+        go true q p r e = full 4 e (both-marks-none old signatures platforms cand (pass .store) some q)
         go false q nowhere r e = full 5 e (chosen-none old signatures platforms cand (pass .store) some r)
         go false q (at start c) r e = planned (record { start = start; emptied = countBelow (h .count) (h .shares) + c }) e
 

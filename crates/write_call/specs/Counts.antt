@@ -17,7 +17,7 @@ use Rattle.store_directory.specs.StoreLaws.{pad-at, directory-listed}
 use Rattle.store_directory.specs.declared.Directory.{Directory}
 use Rattle.write_placement.specs.LegalByNumber.{emptied}
 use Rattle.write_outcome.specs.Legal.{storedIn, emptiedCount}
-use Rattle.write_plan.specs.CandidateMarks.{heldIn}
+use Rattle.write_plan.specs.CandidateMarks.{storedUpdates}
 use Rattle.write_call.specs.Join.{byNumber}
 
 unfoldable pub atEntry : List ℕ → (ℕ → Bool) → ℕ → Bool
@@ -51,6 +51,6 @@ module _ (s : List ℕ) (e : ℕ → Bool) where
       ∙ entries-count n)
 
 pub number-count : (old signatures platforms cand : List ℕ) (e : ℕ → Bool) → storeOk old ≡ true
-    → emptied (heldIn old signatures platforms cand) (byNumber old e) ≡ emptiedCount old e
-unfolding emptied heldIn emptiedCount byNumber atEntry
+    → emptied (storedUpdates old signatures platforms cand) (byNumber old e) ≡ emptiedCount old e
+unfolding emptied storedUpdates emptiedCount byNumber atEntry
 number-count old signatures platforms cand e ok = listed-count old e (directory old) (blockCount old) (directory-listed old (directory old) refl ok)

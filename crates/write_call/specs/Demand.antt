@@ -23,7 +23,7 @@ use Rattle.store_blocks.specs.Blocks.{fromBlock, blockCount}
 use Rattle.store_directory.specs.Scan.{slotAt, sizeAt, first, storeOk}
 use Rattle.store_directory.specs.Valid.{ValidStore}
 use Rattle.store_blocks.specs.declared.slot.Slot.the-variants.{Update}
-use Rattle.processor_list.specs.Processors.{listOk, coversOne, Keeps}
+use Rattle.processor_list.specs.Processors.{listOk, coversOne, Needed}
 use Rattle.write_outcome.specs.Legal.{Legal, emptiedCount}
 use Rattle.write_outcome.specs.OutcomeBytes.{outcomeBytes}
 use Rattle.call_answers.specs.Answers.{ahOf}
@@ -64,7 +64,7 @@ pub record Accepted (old signatures platforms cand : List ℕ) (start emptied : 
   pub kept : (b j : ℕ) → b < blockCount old → first old b ≡ true → set b ≡ false → slotAt old b ≡ Update j
       → (first new b ≡ true) × (slotAt new b ≡ Update j) × Same (fromBlock old b) (fromBlock new b) (j * 2048)
   -- every update that covers a present processor that the candidate doesn't cover is kept
-  pub needed : (b : ℕ) → b < blockCount old → first old b ≡ true → Keeps signatures platforms cand (fromBlock old b) → set b ≡ false
+  pub needed : (b : ℕ) → b < blockCount old → first old b ≡ true → Needed signatures platforms cand (fromBlock old b) → set b ≡ false
   -- no processor, present or not, is covered by two updates: the new store is valid
   pub valid : ValidStore new
   -- the emptied count is the number of updates stored before that no longer stand at their place

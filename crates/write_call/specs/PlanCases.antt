@@ -15,18 +15,18 @@ use Rattle.store_blocks.specs.Blocks.{blockCount}
 use Rattle.store_directory.specs.Scan.{directory}
 use Rattle.store_directory.specs.StoreLaws.{directory-ok}
 use Rattle.store_directory.specs.declared.Directory.{Directory}
-use Rattle.write_placement.specs.Agree.{choose-same, torn-same}
+use Rattle.write_placement.specs.Agree.{choose-same, both-marks-same}
 use Rattle.write_plan.specs.PlanLaws.{placed-same}
 use Rattle.write_placement.specs.Choose.{choose}
-use Rattle.write_marks.specs.StoredMarks.{held, marksOf}
+use Rattle.write_marks.specs.StoredMarks.{storedOf, marksOf}
 use Rattle.laws.specs.Arrays.{markAt}
 use Rattle.write_marks.specs.declared.Marked.{Marked}
 use Rattle.processor_list.specs.Processors.{listOk}
 use Rattle.call_answers.specs.Answers.{refusal}
 use Rattle.call_answers.specs.declared.answer.Answer.{Answer}
 use Rattle.processor_list.specs.Covered.{Covered, one-is}
-use Rattle.write_plan.specs.CandidateMarks.{heldIn}
-use Rattle.write_plan.specs.CandidateMarkLaws.{Marks, held-same}
+use Rattle.write_plan.specs.CandidateMarks.{storedUpdates}
+use Rattle.write_plan.specs.CandidateMarkLaws.{Marks, stored-same}
 use Rattle.write_plan.specs.Plan.{markedAnswer}
 use Rattle.write_call.specs.Write.{goodAnswer, judgedAnswer, planAnswer}
 
@@ -37,14 +37,14 @@ module _ (old signatures platforms cand : List ℕ) (k : ℕ) (marks : List Bool
   unfolding goodAnswer unless
   good-absent h q = rw (← one-is signatures platforms cand marks right r e, h) q
 
-  pub good-marked : r ≡ true → (m : Marked) → Marks old signatures platforms cand m → z ≡ markedAnswer old cand (held (marksOf (m .starts) (m .sizes) (m .shares) (m .keeps) (m .count))) k
+  pub good-marked : r ≡ true → (m : Marked) → Marks old signatures platforms cand m → z ≡ markedAnswer old cand (storedOf (marksOf (m .starts) (m .sizes) (m .shares) (m .needed) (m .count))) k
       → z ≡ goodAnswer old signatures platforms cand k
   unfolding goodAnswer unless
   good-marked h m y q =
-      let a = held-same old signatures platforms cand m y in
-      let g = heldIn old signatures platforms cand in
+      let a = stored-same old signatures platforms cand m y in
+      let g = storedUpdates old signatures platforms cand in
       rw (← one-is signatures platforms cand marks right r e, h)
-      (q ∙ rw (torn-same (held m) g a, choose-same (held m) g a (blockCount old) k, placed-same (held m) g (choose (blockCount old) k g) a))
+      (q ∙ rw (both-marks-same (storedOf m) g a, choose-same (storedOf m) g a (blockCount old) k, placed-same (storedOf m) g (choose (blockCount old) k g) a))
 
 -- d is the directory that was read, l what the list's rule answered, v the verdict
 module _ (old signatures platforms cand : List ℕ) (d : Directory) (z : Answer) (e : d ≡ directory old) where

@@ -1,5 +1,5 @@
 -- What it says that checks 1 to 8 let a write pass (document 01, "The calls", 1).
---   held-laid        the stored updates lie as the choice of a run wants them
+--   stored-laid        the stored updates lie as the choice of a run wants them
 --   passed           a check that doesn't refuse
 --   Planned          the facts that a start and an emptied count come with
 --   plan-written     they hold where the plan answers with the two numbers
@@ -23,8 +23,8 @@ use Rattle.update_verdict.specs.declared.Verdict.the-variants.{Good, BadHeader,
 use Rattle.store_blocks.specs.Blocks.{blockCount}
 use Rattle.store_directory.specs.Scan.{storeOk, directory}
 use Rattle.store_directory.specs.DirectoryLaws.{Listing, listing}
-use Rattle.write_marks.specs.Held.{Held, Laid}
-use Rattle.write_marks.specs.Against.{torn}
+use Rattle.write_marks.specs.StoredUpdates.{StoredUpdates, Laid}
+use Rattle.write_marks.specs.Against.{bothMarks}
 use Rattle.write_placement.specs.Choose.{choose}
 use Rattle.write_placement.specs.Best.{choose-some}
 use Rattle.processor_list.specs.Processors.{listOk, coversOne}
@@ -32,13 +32,13 @@ use Rattle.call_answers.specs.Answers.{refusal}
 use Rattle.call_answers.specs.declared.answer.Answer.{Answer}
 use Rattle.call_answers.specs.declared.answer.Written.{Written as WrittenNumbers}
 use Rattle.call_answers.specs.declared.answer.Answer.the-variants.{Written}
-use Rattle.write_plan.specs.CandidateMarks.{heldIn, outdated}
+use Rattle.write_plan.specs.CandidateMarks.{storedUpdates, outdated}
 use Rattle.write_plan.specs.Plan.{placed}
 use Rattle.write_call.specs.Write.{goodAnswer, judgedAnswer, planAnswer}
 
-pub held-laid : (old signatures platforms cand : List ℕ) → storeOk old ≡ true → Laid (blockCount old) (heldIn old signatures platforms cand)
-unfolding heldIn
-held-laid old signatures platforms cand ok =
+pub stored-laid : (old signatures platforms cand : List ℕ) → storeOk old ≡ true → Laid (blockCount old) (storedUpdates old signatures platforms cand)
+unfolding storedUpdates
+stored-laid old signatures platforms cand ok =
     let d : Listing old (directory old) = listing old ok (directory old) refl in
     record { some = d .some; inside = d .ends; apart = λ i j l m. d .order j i l m }
 
@@ -58,15 +58,15 @@ pub record Planned (old signatures platforms cand : List ℕ) (a : WrittenNumber
   pub present : coversOne signatures platforms cand ≡ true
   pub newer : outdated old cand ≡ false
   -- how many are touched and don't share
-  pub touched : ℕ
-  pub chosen : choose (blockCount old) (blocksOf (totalSize cand)) (heldIn old signatures platforms cand) ≡ at (a .start) touched
-  pub emptied : a .emptied ≡ countBelow (heldIn old signatures platforms cand .count) (heldIn old signatures platforms cand .shares) + touched
+  pub touchedAt : ℕ
+  pub chosen : choose (blockCount old) (blocksOf (totalSize cand)) (storedUpdates old signatures platforms cand) ≡ at (a .start) touchedAt
+  pub emptied : a .emptied ≡ countBelow (storedUpdates old signatures platforms cand .count) (storedUpdates old signatures platforms cand .shares) + touchedAt
   -- the run lies in the store, and the candidate's bytes are lent and few
   pub ends : a .start + blocksOf (totalSize cand) ≤ blockCount old
   pub whole : totalSize cand ≤ length cand
   pub small : totalSize cand ≤ 32768
 
-placed-written : (h : Held) (p : Pick) (a : WrittenNumbers) → placed h p ≡ Written a
+placed-written : (h : StoredUpdates) (p : Pick) (a : WrittenNumbers) → placed h p ≡ Written a
     → (c : ℕ) × (p ≡ at (a .start) c) × (a .emptied ≡ countBelow (h .count) (h .shares) + c)
 unfolding placed
 placed-written h nowhere a e = absurd (let z : _≡_ {A = ℕ} 0 1 = cc in omega arith)
@@ -75,8 +75,8 @@ placed-written h (at start c) a e =
     (c, ap (λ (x : WrittenNumbers). at (x .start) c) f, ap (λ (x : WrittenNumbers). x .emptied) (sym f))
 
 module _ (old signatures platforms cand : List ℕ) (a : WrittenNumbers) (store : storeOk old ≡ true) (list : listOk signatures platforms ≡ true) where
-  abbrev h : Held
-  h = heldIn old signatures platforms cand
+  abbrev h : StoredUpdates
+  h = storedUpdates old signatures platforms cand
 
   good-written : (d n : ℕ) → verdict cand ≡ Good (totalSize cand) d n (blocksOf (totalSize cand))
       → goodAnswer old signatures platforms cand (blocksOf (totalSize cand)) ≡ Written a → Planned old signatures platforms cand a
@@ -85,12 +85,12 @@ module _ (old signatures platforms cand : List ℕ) (a : WrittenNumbers) (store 
       let t = totalSize cand in
       let k = blocksOf t in
       let choice = placed h (choose (blockCount old) k h) in
-      let whole = unless (not (anyBelow (h .count) (torn h))) (refusal 0x93 4) choice in
+      let whole = unless (not (anyBelow (h .count) (bothMarks h))) (refusal 0x93 4) choice in
       let x = passed (coversOne signatures platforms cand) 0x94 0 (unless (not (outdated old cand)) (refusal 0x98 0) whole) a e in
       let y = passed (not (outdated old cand)) 0x98 0 whole a (x .1) in
-      let z = passed (not (anyBelow (h .count) (torn h))) 0x93 4 choice a (y .1) in
+      let z = passed (not (anyBelow (h .count) (bothMarks h))) 0x93 4 choice a (y .1) in
       let w = placed-written h (choose (blockCount old) k h) a (z .1) in
-      let best = choose-some (blockCount old) k h (good-blocks cand t d n k v) (held-laid old signatures platforms cand store) (a .start) (w .0) (w .1) in
+      let best = choose-some (blockCount old) k h (good-blocks cand t d n k v) (stored-laid old signatures platforms cand store) (a .start) (w .0) (w .1) in
       record {
         store = store;
         list = list;
@@ -99,7 +99,7 @@ module _ (old signatures platforms cand : List ℕ) (a : WrittenNumbers) (store 
         good = v;
         present = x .0;
         newer = not-true _ (y .0);
-        touched = w .0;
+        touchedAt = w .0;
         chosen = w .1;
         emptied = w .2;
         ends = best .0 .legal .ends;

@@ -26,7 +26,7 @@ use Rattle.store_directory.specs.ValidLaws.{store-valid}
 use Rattle.store_directory.specs.DirectoryLaws.{startOf, sizeOf, Listing, listing}
 use Rattle.write_marks.specs.Against.{touches, within, fills}
 use Rattle.write_marks.specs.Against as choice
-use Rattle.write_marks.specs.StoredMarks.{held, marksOf}
+use Rattle.write_marks.specs.StoredMarks.{storedOf, marksOf}
 use Rattle.write_marks.specs.declared.Marked.{Marked}
 use Rattle.write_outcome.specs.OutcomeBytes.{inRun, clearedByte, outcomeByte, outcomeBytes}
 use Rattle.write_outcome.specs.ByteLaws.{emptied-same, at-run, outcome-length, getD-tabulate}
@@ -36,7 +36,7 @@ use Rattle.call_answers.specs.declared.answer.Written.{Written as WrittenNumber
 use Rattle.call_answers.specs.declared.answer.Answer.the-variants.{Written}
 use Rattle.write_plan.specs.CandidateMarks.{sharesEntry}
 use Rattle.write_plan.specs.CandidateMarkLaws.{Shared, Marks}
-use Rattle.write_call.specs.Write.{touched, goes, goodAnswer, planAnswer}
+use Rattle.write_call.specs.Write.{touchedAt, emptiedAt, goodAnswer, planAnswer}
 use Rattle.write_call.specs.Planned.{plan-written}
 
 pub record Storing (old cand : List ℕ) (m : Marked) (start : ℕ) : Type 0 where
@@ -88,17 +88,17 @@ module _ (old cand : List ℕ) (m : Marked) (start : ℕ) (y : Storing old cand 
   pub entries-for : Entries old (m .starts) (m .sizes) (m .count)
   entries-for = rw (y .shared .starts-are, y .sizes, y .shared .count-is) (entries-of old (directory old) entries long)
 
-  -- an update that goes by its number goes by its first block
-  goes-entry : (k i : ℕ) → k ≡ blocksOf (totalSize cand) → i < m .count → choice.goes (held m) k start i ≡ goes old cand start (startOf (directory old) i)
-  unfolding choice.goes touches held goes touched sharesEntry
-  goes-entry k i e l =
+  -- an update that is emptied by its number is emptied by its first block
+  emptied-entry : (k i : ℕ) → k ≡ blocksOf (totalSize cand) → i < m .count → choice.emptiedAt (storedOf m) k start i ≡ emptiedAt old cand start (startOf (directory old) i)
+  unfolding choice.emptiedAt touches storedOf emptiedAt touchedAt sharesEntry
+  emptied-entry k i e l =
       let n : i < directory old .count = rw (y .shared .count-is) at l in
       rw (y .shared .marks .each i l, y .shared .starts-are, y .sizes, entries .sized i n, e)
 
   -- one with a block outside the run is not overwritten whole
   fills-entry : (k i c : ℕ) → k ≡ blocksOf (totalSize cand) → i < m .count → inRun start k c ≡ false → startOf (directory old) i ≤ c → c < startOf (directory old) i + sizeAt old (startOf (directory old) i)
-      → fills (held m) k start i ≡ goes old cand start (startOf (directory old) i)
-  unfolding fills within held choice.goes
+      → fills (storedOf m) k start i ≡ emptiedAt old cand start (startOf (directory old) i)
+  unfolding fills within storedOf choice.emptiedAt
   fills-entry k i c e l out from upto =
       let n : i < directory old .count = rw (y .shared .count-is) at l in
       let z : leb start (getD (m .starts) i 0) && leb (getD (m .starts) i 0 + getD (m .sizes) i 0) (start + k) ≡ false =
@@ -107,15 +107,15 @@ module _ (old cand : List ℕ) (m : Marked) (start : ℕ) (y : Storing old cand 
       let b : startOf (directory old) i + sizeOf (directory old) i ≤ start + k = rw (y .shared .starts-are, y .sizes) at (leb-true (getD (m .starts) i 0 + getD (m .sizes) i 0) (start + k) (w .1)) in
       let u : startOf (directory old) i + sizeAt old (startOf (directory old) i) ≤ start + k = rw (← entries .sized i n) b in
       true≢false (sym (at-run start k c (omega arith) (omega arith)) ∙ out)) in
-      rw z (goes-entry k i e l)
+      rw z (emptied-entry k i e l)
 
-  pub stored-bytes : (t k : ℕ) (marks : List Bool) (r : List ℕ) → t ≡ totalSize cand → k ≡ blocksOf t → Filled false 32 (fills (held m) k start) (m .count) marks
-      → r ≡ outcomeBytes old t cand start (marked (m .starts) marks (m .count)) → r ≡ outcomeBytes old (totalSize cand) cand start (goes old cand start)
+  pub stored-bytes : (t k : ℕ) (marks : List Bool) (r : List ℕ) → t ≡ totalSize cand → k ≡ blocksOf t → Filled false 32 (fills (storedOf m) k start) (m .count) marks
+      → r ≡ outcomeBytes old t cand start (marked (m .starts) marks (m .count)) → r ≡ outcomeBytes old (totalSize cand) cand start (emptiedAt old cand start)
   stored-bytes t k marks r e f g h =
-      h ∙ rw e (outcome-same old (totalSize cand) cand start (marked (m .starts) marks (m .count)) (goes old cand start)
+      h ∙ rw e (outcome-same old (totalSize cand) cand start (marked (m .starts) marks (m .count)) (emptiedAt old cand start)
       (λ b c l out o. at-owned b c (omega (arith, o .from)) out o) long)
     where
-      at-owned : (b c : ℕ) → b < blockCount old → inRun start (blocksOf (totalSize cand)) c ≡ false → Owned old (first old) b c → marked (m .starts) marks (m .count) b ≡ goes old cand start b
+      at-owned : (b c : ℕ) → b < blockCount old → inRun start (blocksOf (totalSize cand)) c ≡ false → Owned old (first old) b c → marked (m .starts) marks (m .count) b ≡ emptiedAt old cand start b
       at-owned b c l out o =
           let w = entries .every b l (o .at) in
           let n : w .0 < m .count = omega (arith, w .1, y .shared .count-is) in
@@ -124,7 +124,7 @@ module _ (old cand : List ℕ) (m : Marked) (start : ℕ) (y : Storing old cand 
           ∙ ap (marked (directory old .starts) marks (directory old .count)) (sym (w .2))
           ∙ marked-at old (directory old) marks entries (w .0) (w .1) ∙ g .each (w .0) n
           ∙ fills-entry k (w .0) c q n (rw q out) (rw (w .2) (o .from)) (rw (w .2) (o .upto))
-          ∙ ap (goes old cand start) (w .2)
+          ∙ ap (emptiedAt old cand start) (w .2)
 
   pub run-inside : (t : ℕ) → t ≡ totalSize cand → (start + blocksOf t) * 2048 ≤ length old
   run-inside t e = rw e (omega (arith, y .ends, long))

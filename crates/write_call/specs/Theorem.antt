@@ -14,7 +14,7 @@ use Rattle.write_outcome.specs.AfterLaws.{outcome-after}
 use Rattle.write_outcome.specs.KeptLaws.{kept-made}
 use Rattle.call_answers.specs.declared.answer.Answer.{Answer}
 use Rattle.call_answers.specs.declared.answer.Written.{Written as WrittenNumbers}
-use Rattle.write_call.specs.Write.{goes, bytesAfter, writeAnswer, writeBytes}
+use Rattle.write_call.specs.Write.{emptiedAt, bytesAfter, writeAnswer, writeBytes}
 use Rattle.write_call.specs.Demand.{Passes, Accepted, Demand3}
 use Rattle.write_call.specs.Planned.{Planned, plan-written}
 use Rattle.write_call.specs.Chosen.{planned-best}
@@ -22,10 +22,10 @@ use Rattle.write_call.specs.Gone.{gone-count}
 use Rattle.write_call.specs.Answered.{answer-plan, full-none, none-full, accepts-back, back-accepts}
 
 pub planned-accepted : (old signatures platforms cand : List ℕ) (a : WrittenNumbers) → Planned old signatures platforms cand a
-    → Accepted old signatures platforms cand (a .start) (a .emptied) (outcomeBytes old (totalSize cand) cand (a .start) (goes old cand (a .start)))
+    → Accepted old signatures platforms cand (a .start) (a .emptied) (outcomeBytes old (totalSize cand) cand (a .start) (emptiedAt old cand (a .start)))
 unfolding after
 planned-accepted old signatures platforms cand a plan =
-    let set = goes old cand (a .start) in
+    let set = emptiedAt old cand (a .start) in
     let t = totalSize cand in
     let k = blocksOf t in
     let best = planned-best old signatures platforms cand a plan in

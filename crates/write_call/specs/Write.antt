@@ -4,8 +4,8 @@
 --   planAnswer      checks 1 to 8: a refusal, or the start and the emptied count
 --   readBack        check 9, on an answer of checks 1 to 8
 --   writeAnswer     all of them
---   touched         the run from `start` touches the update at block b
---   goes            the update at block b is emptied: it shares, wherever it lies, or the run touches it
+--   touchedAt         the run from `start` touches the update at block b
+--   emptiedAt            the update at block b is emptied: it shares, wherever it lies, or the run touches it
 --   bytesAfter      the store after an answer
 --   writeBytes      the store afterwards: the outcome's bytes, or the old ones on a refusal
 use Prim.Native.Nat.{ℕ, _+_}
@@ -26,14 +26,14 @@ use Rattle.write_outcome.specs.OutcomeBytes.{outcomeBytes}
 use Rattle.call_answers.specs.Answers.{refusal}
 use Rattle.call_answers.specs.declared.answer.Answer.{Answer}
 use Rattle.call_answers.specs.declared.answer.Answer.the-variants.{Presence, Written, Control, Read, Refused}
-use Rattle.write_plan.specs.CandidateMarks.{heldIn}
+use Rattle.write_plan.specs.CandidateMarks.{storedUpdates}
 use Rattle.write_plan.specs.Plan.{markedAnswer}
 
 -- checks 5 to 8
 unfoldable pub goodAnswer : List ℕ → List ℕ → List ℕ → List ℕ → ℕ → Answer
 goodAnswer old signatures platforms cand k =
     unless (coversOne signatures platforms cand) (refusal 0x94 0)
-    (markedAnswer old cand (heldIn old signatures platforms cand) k)
+    (markedAnswer old cand (storedUpdates old signatures platforms cand) k)
 
 -- checks 2 to 8
 unfoldable pub judgedAnswer : List ℕ → List ℕ → List ℕ → List ℕ → Verdict → Answer
@@ -60,15 +60,15 @@ unfoldable pub writeAnswer : List ℕ → List ℕ → List ℕ → List ℕ →
 writeAnswer old signatures platforms cand back = readBack back (revision cand) (planAnswer old signatures platforms cand)
 
 -- the run of k blocks from the start touches the update at block b
-unfoldable pub touched : List ℕ → ℕ → ℕ → ℕ → Bool
-touched old k start b = ltb start (b + sizeAt old b) && ltb b (start + k)
+unfoldable pub touchedAt : List ℕ → ℕ → ℕ → ℕ → Bool
+touchedAt old k start b = ltb start (b + sizeAt old b) && ltb b (start + k)
 
-unfoldable pub goes : List ℕ → List ℕ → ℕ → ℕ → Bool
-goes old cand start b = shares (fromBlock old b) cand || touched old (blocksOf (totalSize cand)) start b
+unfoldable pub emptiedAt : List ℕ → List ℕ → ℕ → ℕ → Bool
+emptiedAt old cand start b = shares (fromBlock old b) cand || touchedAt old (blocksOf (totalSize cand)) start b
 
 unfoldable pub bytesAfter : List ℕ → List ℕ → Answer → List ℕ
 bytesAfter old cand (Presence a) = old
-bytesAfter old cand (Written a) = outcomeBytes old (totalSize cand) cand (a .start) (goes old cand (a .start))
+bytesAfter old cand (Written a) = outcomeBytes old (totalSize cand) cand (a .start) (emptiedAt old cand (a .start))
 bytesAfter old cand (Control a) = old
 bytesAfter old cand (Read a) = old
 bytesAfter old cand (Refused a) = old

@@ -19,7 +19,7 @@ use Rattle.call_answers.specs.declared.answer.Control.{Control as ControlNumber
 use Rattle.call_answers.specs.declared.answer.Read.{Read as ReadNumbers}
 use Rattle.call_answers.specs.declared.answer.Refused.{Refused as RefusedNumbers}
 use Rattle.call_answers.specs.declared.answer.Answer.the-variants.{Presence, Written, Control, Read, Refused}
-use Rattle.write_call.specs.Write.{goes, goodAnswer, planAnswer, readBack, writeAnswer, bytesAfter, writeBytes}
+use Rattle.write_call.specs.Write.{emptiedAt, goodAnswer, planAnswer, readBack, writeAnswer, bytesAfter, writeBytes}
 use Rattle.write_call.specs.Demand.{Passes, Demand3}
 use Rattle.write_call.specs.Theorem.{demanded}
 
@@ -53,7 +53,7 @@ pub ruleset answered = (back-right, back-wrong, back-presence, back-control, bac
 
 -- r is the answer of the write
 module _ (old cand : List ℕ) (r : Answer) where
-  pub bytes-written : (w : WrittenNumbers) (new : List ℕ) → r ≡ Written w → new ≡ outcomeBytes old (totalSize cand) cand (w .start) (goes old cand (w .start)) → new ≡ bytesAfter old cand r
+  pub bytes-written : (w : WrittenNumbers) (new : List ℕ) → r ≡ Written w → new ≡ outcomeBytes old (totalSize cand) cand (w .start) (emptiedAt old cand (w .start)) → new ≡ bytesAfter old cand r
   unfolding bytesAfter
   bytes-written w new h q = rw h q
 

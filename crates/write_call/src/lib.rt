@@ -7,7 +7,7 @@ ghost use mathlib.Core.List.{[]};
 ghost use Rattle.write_marks.specs.StoredMarks.{marksOf};
 ghost use Rattle.processor_list.specs.Processors.{listOk};
 ghost use Rattle.write_outcome.specs.OutcomeBytes.{outcomeBytes};
-ghost use Rattle.write_call.specs.Write.{goes, goodAnswer, planAnswer, readBack, writeAnswer, bytesAfter, writeBytes};
+ghost use Rattle.write_call.specs.Write.{emptiedAt, goodAnswer, planAnswer, readBack, writeAnswer, bytesAfter, writeBytes};
 ghost use Rattle.write_call.specs.Demand.{Passes, Demand3};
 ghost use Rattle.write_call.specs.Storing.{Storing, Storable};
 use call_answers::answer;
@@ -29,7 +29,7 @@ fn store_candidate<'a>(
     candidate: &[u8],
 )
     requires { ⌜ Storing (now store) (now candidate) (marksOf (now starts) (now sizes) (now shares) [] count) start ⌝ }
-    ensures { λ _. ⌜ now (store .exit) ≡ outcomeBytes (now (store .entry)) (totalSize (now (candidate .entry))) (now (candidate .entry)) start (goes (now (store .entry)) (now (candidate .entry)) start) ⌝ }
+    ensures { λ _. ⌜ now (store .exit) ≡ outcomeBytes (now (store .entry)) (totalSize (now (candidate .entry))) (now (candidate .entry)) start (emptiedAt (now (store .entry)) (now (candidate .entry)) start) ⌝ }
 {
     let t = fields::total_size(candidate);
     let k = update_sizes::blocks_of(t);
@@ -102,7 +102,7 @@ fn write_good(
             &m.starts,
             &m.sizes,
             &m.shares,
-            &m.keeps,
+            &m.needed,
             count,
             candidate,
             k,

@@ -128,7 +128,7 @@ module _ (old signatures platforms cand : List ℕ) (t d n k start : ℕ) (e : �
 
   new-layout : Layout new (blockCount old) (after old start e)
   new-layout = record {
-    held = λ b l h. ⊎-elim (λ p. let j = kept-update old e b p in (j .0, stays b (j .0) l p (j .1) .0)) (λ p. (blocksOf t, ap (slotAt new) p ∙ cand-slot old cand t d n k start e good ends)) (after-cases old start e b h);
+    stored = λ b l h. ⊎-elim (λ p. let j = kept-update old e b p in (j .0, stays b (j .0) l p (j .1) .0)) (λ p. (blocksOf t, ap (slotAt new) p ∙ cand-slot old cand t d n k start e good ends)) (after-cases old start e b h);
     order = new-order;
     full = new-full;
   }

@@ -4,7 +4,7 @@ pub mod marks;
 ghost use mathlib.Core.Path.{_≡_};
 ghost use Prim.Native.Nat.{_/_, _≤_};
 ghost use lib.ListN.{length};
-ghost use Rattle.write_marks.specs.StoredMarks.{held, marksOf};
+ghost use Rattle.write_marks.specs.StoredMarks.{storedOf, marksOf};
 ghost use Rattle.write_placement.specs.Choose.{choose};
 ghost use Rattle.write_plan.specs.CandidateMarkLaws.{Shared};
 ghost use Rattle.write_plan.specs.Plan.{placed, markedAnswer};
@@ -18,15 +18,15 @@ fn place<'a>(
     starts: &'a [u8; 32],
     sizes: &'a [u8; 32],
     shares: &'a [bool; 32],
-    keeps: &'a [bool; 32],
+    needed: &'a [bool; 32],
     count: usize,
     n: u32,
     k: u32,
 ) -> Answer
     requires { ⌜ (count ≤ 32) × (n ≤ 32) ⌝ }
-    ensures { λ r. ⌜ r ≡ placed (held (marksOf (now (starts .entry)) (now (sizes .entry)) (now (shares .entry)) (now (keeps .entry)) count)) (choose n k (held (marksOf (now (starts .entry)) (now (sizes .entry)) (now (shares .entry)) (now (keeps .entry)) count))) ⌝ }
+    ensures { λ r. ⌜ r ≡ placed (storedOf (marksOf (now (starts .entry)) (now (sizes .entry)) (now (shares .entry)) (now (needed .entry)) count)) (choose n k (storedOf (marksOf (now (starts .entry)) (now (sizes .entry)) (now (shares .entry)) (now (needed .entry)) count))) ⌝ }
 {
-    let choice = write_placement::choose_run(starts, sizes, shares, keeps, count, n, k);
+    let choice = write_placement::choose_run(starts, sizes, shares, needed, count, n, k);
     match choice {
         Choice::Nowhere => answer::refuse(0x93, 5),
         Choice::At { start, touched } => Answer::Written(Written {
@@ -42,20 +42,20 @@ pub fn plan_marked<'a>(
     starts: &'a [u8; 32],
     sizes: &'a [u8; 32],
     shares: &'a [bool; 32],
-    keeps: &'a [bool; 32],
+    needed: &'a [bool; 32],
     count: usize,
     candidate: &[u8],
     k: u32,
 ) -> Answer
     requires { ⌜ Shared (now store) (now candidate) (now starts) (now shares) count × (length (now store) / 2048 ≤ 32) ⌝ }
-    ensures { λ r. ⌜ r ≡ markedAnswer (now (store .entry)) (now (candidate .entry)) (held (marksOf (now (starts .entry)) (now (sizes .entry)) (now (shares .entry)) (now (keeps .entry)) count)) k ⌝ }
+    ensures { λ r. ⌜ r ≡ markedAnswer (now (store .entry)) (now (candidate .entry)) (storedOf (marksOf (now (starts .entry)) (now (sizes .entry)) (now (shares .entry)) (now (needed .entry)) count)) k ⌝ }
 {
     if marks::outdated(store, starts, shares, count, candidate) {
         return answer::refuse(0x98, 0);
     }
-    if write_marks::torn(shares, keeps, count) {
+    if write_marks::both_marks(shares, needed, count) {
         return answer::refuse(0x93, 4);
     }
     let n = (store.len() / 2048) as u32;
-    place(starts, sizes, shares, keeps, count, n, k)
+    place(starts, sizes, shares, needed, count, n, k)
 }

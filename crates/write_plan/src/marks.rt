@@ -32,14 +32,14 @@ pub fn mark(
     let data = fields::data_size(candidate);
     let pairs = update_coverage::pair_count(candidate);
     let mut shared = [false; 32];
-    let mut keeps = [false; 32];
+    let mut needed = [false; 32];
     let mut i: usize = 0;
     while i < d.count {
         let u = store_blocks::from_start(store, d.starts[i]);
         let m = fields::data_size(u);
         let n = update_coverage::pair_count(u);
         shared[i] = update_sharing::shares_with(u, m, n, candidate, data, pairs);
-        keeps[i] = processor_list::keeping(signatures, platforms, marks, u, m, n);
+        needed[i] = processor_list::is_needed(signatures, platforms, marks, u, m, n);
         i += 1;
     }
     let starts = d.starts;
@@ -48,7 +48,7 @@ pub fn mark(
         starts,
         sizes,
         shares: shared,
-        keeps,
+        needed,
         count: d.count,
     }
 }

@@ -1,6 +1,6 @@
 -- `write_plan::plan_marked` meets its contract: checks 6 to 8 in their order.
 use native.Mathlib.Omega.{arith}
-use Rattle.write_plan.specs.PlanLaws.{marked-outdated, marked-torn, marked-placed}
+use Rattle.write_plan.specs.PlanLaws.{marked-outdated, marked-both, marked-placed}
 use Rattle.write_plan.proofs.plan_marked.Statement.{statement}
 use Rattle.write_plan.proofs.plan_marked.Tie as tie
 
@@ -12,12 +12,12 @@ returns c =
 returns-2 : tie.Need-returns-2
 returns-2 c =
     let t = c .before .before in
-    marked-torn _ _ _ _ _ _ (t .before .before .outdated .ensures) (t .before .if1 .left) _ (t .torn .ensures) (c .before .if2 .taken) (c .refuse2 .ensures)
+    marked-both _ _ _ _ _ _ (t .before .before .outdated .ensures) (t .before .if1 .left) _ (t .both-marks .ensures) (c .before .if2 .taken) (c .refuse2 .ensures)
 
 returns-3 : tie.Need-returns-3
 returns-3 c =
     let t = c .before .before in
-    marked-placed _ _ _ _ _ _ (t .before .before .outdated .ensures) (t .before .if1 .left) _ (t .torn .ensures) (c .before .if2 .left) (c .place .ensures)
+    marked-placed _ _ _ _ _ _ (t .before .before .outdated .ensures) (t .before .if1 .left) _ (t .both-marks .ensures) (c .before .if2 .left) (c .place .ensures)
 
 pub plan-marked-spec : {M : Type 1} → statement M
 plan-marked-spec =
