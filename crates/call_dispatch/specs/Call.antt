@@ -9,6 +9,7 @@ use Prim.Native.Nat.{ℕ}
 use mathlib.Core.Bool.{Bool, cond, _&&_}
 use mathlib.Core.List.{List}
 use lib.Dec.{eqb}
+use Rattle.processor_list.specs.Processors.{ProcessorList}
 use Rattle.laws.specs.Unless.{unless}
 use Rattle.call_answers.specs.Answers.{refusal}
 use Rattle.call_reads.specs.Presence.{presenceAnswer}
@@ -25,18 +26,18 @@ replied loading a = record { answer = a; loading = loading }
 unfoldable pub unknown : Bool → Reply
 unknown loading = replied loading (refusal 0x86 0)
 
-unfoldable pub callReply : ℕ → ℕ → ℕ → ℕ → Bool → List ℕ → List ℕ → List ℕ → List ℕ → ℕ → ℕ → Reply
-callReply function sub task block loading store signatures platforms cand back lent =
+unfoldable pub callReply : ℕ → ℕ → ℕ → ℕ → Bool → List ℕ → ProcessorList → List ℕ → ℕ → ℕ → Reply
+callReply function sub task block loading store list cand back lent =
     unless (eqb function 0xD042) (unknown loading)
     (cond (eqb sub 0) (replied loading (presenceAnswer store))
-    (cond (eqb sub 1) (replied loading (writeAnswer store signatures platforms cand back))
+    (cond (eqb sub 1) (replied loading (writeAnswer store list cand back))
     (cond (eqb sub 2) (controlReply task loading)
     (cond (eqb sub 3) (replied loading (readAnswer store block lent))
     (unknown loading)))))
 
-unfoldable pub callStore : ℕ → ℕ → List ℕ → List ℕ → List ℕ → List ℕ → ℕ → List ℕ
-callStore function sub store signatures platforms cand back =
-    unless (eqb function 0xD042 && eqb sub 1) store (writeBytes store signatures platforms cand back)
+unfoldable pub callStore : ℕ → ℕ → List ℕ → ProcessorList → List ℕ → ℕ → List ℕ
+callStore function sub store list cand back =
+    unless (eqb function 0xD042 && eqb sub 1) store (writeBytes store list cand back)
 
 unfoldable pub callDestination : ℕ → ℕ → ℕ → List ℕ → List ℕ → List ℕ
 callDestination function sub block store destination =

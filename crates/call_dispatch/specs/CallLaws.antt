@@ -9,6 +9,7 @@ use mathlib.Core.List.{List}
 use native.Mathlib.Omega.{arith}
 use lib.ListN.{length}
 use borrow.Author.Tests.{eq-eqb, ne-eqb}
+use Rattle.processor_list.specs.Processors.{ProcessorList}
 use Rattle.laws.specs.Unless.{unless}
 use Rattle.call_reads.specs.Presence.{presenceAnswer}
 use Rattle.call_control.specs.Control.{controlReply}
@@ -18,11 +19,11 @@ use Rattle.call_answers.specs.declared.answer.Reply.{Reply}
 use Rattle.write_call.specs.Write.{writeAnswer, writeBytes}
 use Rattle.call_dispatch.specs.Call.{replied, unknown, callReply, callStore, callDestination}
 
-module _ (function sub task block : ℕ) (loading : Bool) (store signatures platforms cand : List ℕ) (back : ℕ) (destination : List ℕ) where
+module _ (function sub task block : ℕ) (loading : Bool) (store : List ℕ) (list : ProcessorList) (cand : List ℕ) (back : ℕ) (destination : List ℕ) where
   abbrev pub Called : Reply → List ℕ → List ℕ → Type 0
   Called r s d =
-      (r ≡ callReply function sub task block loading store signatures platforms cand back (length destination))
-      × ((s ≡ callStore function sub store signatures platforms cand back) × (d ≡ callDestination function sub block store destination))
+      (r ≡ callReply function sub task block loading store list cand back (length destination))
+      × ((s ≡ callStore function sub store list cand back) × (d ≡ callDestination function sub block store destination))
 
   pub other-function : (r : Reply) → (function ≡ 0xD042 → ⊥) → r ≡ unknown loading → Called r store destination
   unfolding callReply callStore callDestination unless
@@ -33,7 +34,7 @@ module _ (function sub task block : ℕ) (loading : Bool) (store signatures plat
     unfolding callReply callStore callDestination unless
     presence-called a h e = rw (eq-eqb function 0xD042 f, h) (rw e refl, (refl, refl))
 
-    pub write-called : (a : Answer) (s : List ℕ) → sub ≡ 1 → a ≡ writeAnswer store signatures platforms cand back → s ≡ writeBytes store signatures platforms cand back → Called (replied loading a) s destination
+    pub write-called : (a : Answer) (s : List ℕ) → sub ≡ 1 → a ≡ writeAnswer store list cand back → s ≡ writeBytes store list cand back → Called (replied loading a) s destination
     unfolding callReply callStore callDestination unless
     write-called a s h e g = rw (eq-eqb function 0xD042 f, h) (rw e refl, (g, refl))
 

@@ -1,5 +1,6 @@
 // The four D042h calls behind one function: it judges function and sub-function first, then hands on.
 ghost use mathlib.Core.Path.{_≡_};
+ghost use Rattle.processor_list.specs.Processors.{listOf};
 ghost use lib.ListN.{length};
 ghost use Rattle.call_dispatch.specs.Call.{unknown, callReply, callStore, callDestination};
 use call_answers::answer;
@@ -32,8 +33,8 @@ pub fn call(
     back: u32,
     destination: &mut [u8],
 ) -> Reply
-    ensures replies { λ r. ⌜ r ≡ callReply function sub task block loading (now (store .entry)) (now (signatures .entry)) (now (platforms .entry)) (now (candidate .entry)) back (length (now (destination .entry))) ⌝ }
-    ensures stores { λ r. ⌜ now (store .exit) ≡ callStore function sub (now (store .entry)) (now (signatures .entry)) (now (platforms .entry)) (now (candidate .entry)) back ⌝ }
+    ensures replies { λ r. ⌜ r ≡ callReply function sub task block loading (now (store .entry)) (listOf (now (signatures .entry)) (now (platforms .entry))) (now (candidate .entry)) back (length (now (destination .entry))) ⌝ }
+    ensures stores { λ r. ⌜ now (store .exit) ≡ callStore function sub (now (store .entry)) (listOf (now (signatures .entry)) (now (platforms .entry))) (now (candidate .entry)) back ⌝ }
     ensures copies { λ r. ⌜ now (destination .exit) ≡ callDestination function sub block (now (store .entry)) (now (destination .entry)) ⌝ }
 {
     if function != 0xD042 {

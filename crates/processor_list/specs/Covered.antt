@@ -10,23 +10,23 @@ use mathlib.Core.List.{List}
 use lib.ListN.{length}
 use Rattle.laws.specs.Below.{anyBelow, any-cong}
 use Rattle.laws.specs.Arrays.{Filled, markAt}
-use Rattle.processor_list.specs.Processors.{coversListed, coversOne, neededFor, isNeeded}
+use Rattle.processor_list.specs.Processors.{ProcessorList, coversListed, coversOne, neededFor, isNeeded}
 
-unfoldable pub neededByMarks : List ℕ → List ℕ → List Bool → List ℕ → ℕ → Bool
-neededByMarks signatures platforms marks u i = coversListed signatures platforms u i && not (markAt marks i)
+unfoldable pub neededByMarks : ProcessorList → List Bool → List ℕ → ℕ → Bool
+neededByMarks list marks u i = coversListed list u i && not (markAt marks i)
 
 -- the marks are right for all listed processors
-abbrev pub Covered : List ℕ → List ℕ → List ℕ → List Bool → Type 0
-Covered signatures platforms cand marks = Filled false 8 (coversListed signatures platforms cand) (length signatures) marks
+abbrev pub Covered : ProcessorList → List ℕ → List Bool → Type 0
+Covered list cand marks = Filled false 8 (coversListed list cand) (length (list .signatures)) marks
 
-module _ (signatures platforms cand : List ℕ) (marks : List Bool) (right : Covered signatures platforms cand marks) where
-  pub one-is : (r : Bool) → r ≡ anyBelow (length signatures) (markAt marks) → r ≡ coversOne signatures platforms cand
+module _ (list : ProcessorList) (cand : List ℕ) (marks : List Bool) (right : Covered list cand marks) where
+  pub one-is : (r : Bool) → r ≡ anyBelow (length (list .signatures)) (markAt marks) → r ≡ coversOne list cand
   unfolding coversOne markAt
-  one-is r e = e ∙ any-cong (markAt marks) (coversListed signatures platforms cand) (length signatures) (λ k l. right .each k l)
+  one-is r e = e ∙ any-cong (markAt marks) (coversListed list cand) (length (list .signatures)) (λ k l. right .each k l)
 
-  pub needed-by-is : (u : List ℕ) (r : Bool) → r ≡ anyBelow (length signatures) (neededByMarks signatures platforms marks u) → r ≡ isNeeded signatures platforms cand u
+  pub needed-by-is : (u : List ℕ) (r : Bool) → r ≡ anyBelow (length (list .signatures)) (neededByMarks list marks u) → r ≡ isNeeded list cand u
   unfolding isNeeded neededFor neededByMarks markAt
-  needed-by-is u r e = e ∙ any-cong (neededByMarks signatures platforms marks u) (neededFor signatures platforms cand u) (length signatures) (λ k l. rw (right .each k l))
+  needed-by-is u r e = e ∙ any-cong (neededByMarks list marks u) (neededFor list cand u) (length (list .signatures)) (λ k l. rw (right .each k l))
 
 -- r is what a call answered, m a mark
 module _ (r a m : Bool) (e : r ≡ a) where

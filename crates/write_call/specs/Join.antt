@@ -22,9 +22,10 @@ use Rattle.store_directory.specs.Valid.{Owned}
 use Rattle.store_directory.specs.DirectoryLaws.{startOf, Listing, listing, kind-free}
 use Rattle.store_directory.specs.declared.kind.Kind.the-variants.{Unused}
 use Rattle.write_marks.specs.StoredUpdates.{StoredUpdates, Holds}
-use Rattle.write_placement.specs.LegalByNumber.{Legal as LegalRun}
+use Rattle.write_placement.specs.LegalByNumber.{LegalByNumber}
 use Rattle.write_marks.specs.Against.{touchesByNumber, emptiedByNumber}
-use Rattle.processor_list.specs.Processors.{isNeeded, needed-law}
+use Rattle.processor_list.specs.Processors.{ProcessorList, isNeeded}
+use Rattle.processor_list.specs.NeededLaws.{needed-law}
 use Rattle.write_outcome.specs.Legal.{Legal}
 use Rattle.store_directory.specs.KindLaws.{free-unowned}
 use Rattle.write_plan.specs.CandidateMarks.{sharesEntry, neededEntry, storedUpdates}
@@ -34,9 +35,9 @@ use Rattle.write_call.specs.Write.{touchedAt, emptiedAt}
 unfoldable pub byNumber : List ℕ → (ℕ → Bool) → ℕ → Bool
 byNumber old e i = e (startOf (directory old) i)
 
-module _ (old signatures platforms cand : List ℕ) (ok : storeOk old ≡ true) where
+module _ (old : List ℕ) (list : ProcessorList) (cand : List ℕ) (ok : storeOk old ≡ true) where
   abbrev h : StoredUpdates
-  h = storedUpdates old signatures platforms cand
+  h = storedUpdates old list cand
 
   entries : Listing old (directory old)
   entries = listing old ok (directory old) refl
@@ -62,7 +63,7 @@ module _ (old signatures platforms cand : List ℕ) (ok : storeOk old ≡ true) 
   start-below i l = omega (arith, entries .some i l, entries .ends i l)
 
   module _ (t start : ℕ) (e : ℕ → Bool) where
-    pub legal-numbers : Legal old signatures platforms cand t start e → LegalRun (blockCount old) (blocksOf t) h start (byNumber old e)
+    pub legal-numbers : Legal old list cand t start e → LegalByNumber (blockCount old) (blocksOf t) h start (byNumber old e)
     unfolding byNumber storedUpdates neededEntry sharesEntry
     legal-numbers legal = record {
       ends = legal .ends;
@@ -73,18 +74,18 @@ module _ (old signatures platforms cand : List ℕ) (ok : storeOk old ≡ true) 
           inr (i .0, i .1, owned-holds (i .0) (w .0) c (i .1) (i .2) (w .2), ap e (i .2) ∙ w .1))
           (legal .free c p q);
       spares = λ i l g.
-          no-true (neededEntry old signatures platforms cand i) (λ w.
-          legal .spares (h .start i) (start-below i l) (entries .begin i l) (needed-law signatures platforms cand (fromBlock old (h .start i)) .0 w) g);
+          no-true (neededEntry old list cand i) (λ w.
+          legal .spares (h .start i) (start-below i l) (entries .begin i l) (needed-law list cand (fromBlock old (h .start i)) .0 w) g);
       frees = λ i l w. legal .frees (h .start i) (start-below i l) (entries .begin i l) (shares-law (fromBlock old (h .start i)) cand .0 w);
     }
 
-    module _ (f : ℕ → Bool) (same : (i : ℕ) → i < h .count → byNumber old e i ≡ f i) (legal : LegalRun (blockCount old) (blocksOf t) h start f) where
+    module _ (f : ℕ → Bool) (same : (i : ℕ) → i < h .count → byNumber old e i ≡ f i) (legal : LegalByNumber (blockCount old) (blocksOf t) h start f) where
       -- the set has block b, which is the first of update number i, exactly if it has number i
       set-same : (b i : ℕ) → i < h .count → h .start i ≡ b → e b ≡ f i
       unfolding byNumber storedUpdates
       set-same b i l q = ap e (sym q) ∙ same i l
 
-      pub legal-blocks : Legal old signatures platforms cand t start e
+      pub legal-blocks : Legal old list cand t start e
       unfolding storedUpdates neededEntry sharesEntry
       legal-blocks = record {
         ends = legal .ends;
@@ -95,7 +96,7 @@ module _ (old signatures platforms cand : List ℕ) (ok : storeOk old ≡ true) 
             (legal .free c p q);
         spares = λ b l g k w.
             let i = entries .every b l g in
-            let x : isNeeded signatures platforms cand (fromBlock old b) ≡ true = needed-law signatures platforms cand (fromBlock old b) .1 k in
+            let x : isNeeded list cand (fromBlock old b) ≡ true = needed-law list cand (fromBlock old b) .1 k in
             true≢false (sym (rw (← i .2) at x) ∙ legal .spares (i .0) (i .1) (sym (set-same b (i .0) (i .1) (i .2)) ∙ w));
         frees = λ b l g k.
             let i = entries .every b l g in
@@ -104,5 +105,5 @@ module _ (old signatures platforms cand : List ℕ) (ok : storeOk old ≡ true) 
       }
 
   pub emptied-number : (start i : ℕ) → i < h .count → byNumber old (emptiedAt old cand start) i ≡ emptiedByNumber h (blocksOf (totalSize cand)) start i
-  unfolding byNumber storedUpdates emptiedAt emptiedByNumber touchedAt touches sharesEntry
+  unfolding byNumber storedUpdates emptiedAt emptiedByNumber touchedAt touchesByNumber sharesEntry
   emptied-number start i l = rw (entries .sized i l)

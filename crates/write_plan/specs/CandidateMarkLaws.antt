@@ -9,6 +9,7 @@ use mathlib.Core.Bool.{Bool, true, false, _&&_}
 use mathlib.Core.List.{List}
 use lib.ListN.{length, getD}
 use lib.Dec.{leb}
+use Rattle.processor_list.specs.Processors.{ProcessorList}
 use Rattle.laws.specs.Below.{anyBelow, any-none, any-more, any-stop}
 use Rattle.laws.specs.Loops.{scan-done}
 use Rattle.laws.specs.Arrays.{Filled, filled-all}
@@ -29,10 +30,10 @@ pub record Shared (old cand starts : List ℕ) (shares : List Bool) (count : ℕ
   pub few : count ≤ 32
   pub marks : Filled false 32 (sharesEntry old cand) count shares
 
-pub record Marks (old signatures platforms cand : List ℕ) (m : Marked) : Type 0 where
+pub record Marks (old : List ℕ) (list : ProcessorList) (cand : List ℕ) (m : Marked) : Type 0 where
   pub shared : Shared old cand (m .starts) (m .shares) (m .count)
   pub sizes : m .sizes ≡ directory old .sizes
-  pub needed : Filled false 32 (neededEntry old signatures platforms cand) (m .count) (m .needed)
+  pub needed : Filled false 32 (neededEntry old list cand) (m .count) (m .needed)
 
 -- a turn: d is the directory, u the part at the start of entry i
 module _ (old u cand : List ℕ) (d : Directory) (i : ℕ) (r : Bool) (e : d ≡ directory old) (part : u ≡ fromBlock old (getD (d .starts) i 0)) where
@@ -40,19 +41,19 @@ module _ (old u cand : List ℕ) (d : Directory) (i : ℕ) (r : Bool) (e : d ≡
   unfolding sharesEntry
   shares-is h = h ∙ rw (part, e)
 
-  pub needed-is : (signatures platforms : List ℕ) (marks : List Bool) → Covered signatures platforms cand marks → r ≡ anyBelow (length signatures) (neededByMarks signatures platforms marks u) → r ≡ neededEntry old signatures platforms cand i
+  pub needed-is : (list : ProcessorList) (marks : List Bool) → Covered list cand marks → r ≡ anyBelow (length (list .signatures)) (neededByMarks list marks u) → r ≡ neededEntry old list cand i
   unfolding neededEntry
-  needed-is signatures platforms marks right h = needed-by-is signatures platforms cand marks right u r h ∙ rw (part, e)
+  needed-is list marks right h = needed-by-is list cand marks right u r h ∙ rw (part, e)
 
 -- the loop's end
-pub marks-made : (old signatures platforms cand : List ℕ) (d : Directory) (i : ℕ) (xs ys : List Bool) → d ≡ directory old → d .count ≤ 32
-    → Filled false 32 (sharesEntry old cand) i xs → Filled false 32 (neededEntry old signatures platforms cand) i ys → i ≤ d .count → d .count ≤ i
-    → Marks old signatures platforms cand (record { starts = d .starts; sizes = d .sizes; shares = xs; needed = ys; count = d .count })
-marks-made old signatures platforms cand d i xs ys e few a b l m =
+pub marks-made : (old : List ℕ) (list : ProcessorList) (cand : List ℕ) (d : Directory) (i : ℕ) (xs ys : List Bool) → d ≡ directory old → d .count ≤ 32
+    → Filled false 32 (sharesEntry old cand) i xs → Filled false 32 (neededEntry old list cand) i ys → i ≤ d .count → d .count ≤ i
+    → Marks old list cand (record { starts = d .starts; sizes = d .sizes; shares = xs; needed = ys; count = d .count })
+marks-made old list cand d i xs ys e few a b l m =
     record {
       sizes = rw e;
       shared = record { starts-are = rw e; count-is = rw e; few = few; marks = filled-all false 32 (sharesEntry old cand) xs i (d .count) a l m };
-      needed = filled-all false 32 (neededEntry old signatures platforms cand) ys i (d .count) b l m;
+      needed = filled-all false 32 (neededEntry old list cand) ys i (d .count) b l m;
     }
 
 -- one update: v is the revision that a call read from the part u
@@ -79,9 +80,9 @@ outdate-done old cand starts shares count i right h p q = scan-done (outdates ol
 
 pub ruleset outdating = (any-none, outdate-more, outdate-stop, outdate-done)
 
-pub stored-same : (old signatures platforms cand : List ℕ) (m : Marked) → Marks old signatures platforms cand m → Agree (storedOf m) (storedUpdates old signatures platforms cand)
+pub stored-same : (old : List ℕ) (list : ProcessorList) (cand : List ℕ) (m : Marked) → Marks old list cand m → Agree (storedOf m) (storedUpdates old list cand)
 unfolding storedOf storedUpdates
-stored-same old signatures platforms cand m right =
+stored-same old list cand m right =
     let s = right .shared in
     record {
       count = s .count-is;

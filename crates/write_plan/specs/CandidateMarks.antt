@@ -15,7 +15,7 @@ use Rattle.update_sharing.specs.Shares.{shares}
 use Rattle.store_blocks.specs.Blocks.{fromBlock}
 use Rattle.store_directory.specs.Scan.{directory}
 use Rattle.store_directory.specs.DirectoryLaws.{startOf, sizeOf}
-use Rattle.processor_list.specs.Processors.{isNeeded}
+use Rattle.processor_list.specs.Processors.{ProcessorList, isNeeded}
 use Rattle.write_marks.specs.StoredUpdates.{StoredUpdates}
 
 -- the bytes from the first block of update number i on
@@ -25,17 +25,17 @@ updateAt old i = fromBlock old (startOf (directory old) i)
 unfoldable pub sharesEntry : List ℕ → List ℕ → ℕ → Bool
 sharesEntry old cand i = shares (updateAt old i) cand
 
-unfoldable pub neededEntry : List ℕ → List ℕ → List ℕ → List ℕ → ℕ → Bool
-neededEntry old signatures platforms cand i = isNeeded signatures platforms cand (updateAt old i)
+unfoldable pub neededEntry : List ℕ → ProcessorList → List ℕ → ℕ → Bool
+neededEntry old list cand i = isNeeded list cand (updateAt old i)
 
-unfoldable pub storedUpdates : List ℕ → List ℕ → List ℕ → List ℕ → StoredUpdates
-storedUpdates old signatures platforms cand =
+unfoldable pub storedUpdates : List ℕ → ProcessorList → List ℕ → StoredUpdates
+storedUpdates old list cand =
     record {
       count = directory old .count;
       start = startOf (directory old);
       size = sizeOf (directory old);
       shares = sharesEntry old cand;
-      needed = neededEntry old signatures platforms cand;
+      needed = neededEntry old list cand;
     }
 
 unfoldable pub outdates : List ℕ → List ℕ → ℕ → Bool

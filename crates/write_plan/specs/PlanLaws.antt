@@ -24,10 +24,11 @@ use Rattle.laws.specs.Arrays.{markAt}
 use Rattle.write_marks.specs.declared.Marked.{Marked}
 use Rattle.write_placement.specs.declared.Choice.{Choice}
 use Rattle.write_placement.specs.declared.Choice.the-variants.{At, Nowhere}
-use Rattle.call_answers.specs.Answers.{refusal}
-use Rattle.call_answers.specs.declared.answer.Answer.{Answer}
+use Rattle.call_answers.specs.Codes.{STORAGE-FULL, INVALID-REVISION, none, sharing-needed, no-run}
+use Rattle.write_plan.specs.declared.Plan.{Plan}
+use Rattle.write_plan.specs.declared.Plan.the-variants.{Run, Refuse}
 use Rattle.write_plan.specs.CandidateMarks.{outdated}
-use Rattle.write_plan.specs.Plan.{written, placed, markedAnswer}
+use Rattle.write_plan.specs.Plan.{placed, markedPlan}
 
 choose-most : (h : StoredUpdates) (n k s c : ℕ) → choose n k h ≡ at s c → c ≤ h .count
 unfolding choose lost
@@ -47,15 +48,15 @@ choice-nowhere (at t d) e = absurd (let z : _≡_ {A = ℕ} 0 1 = cc in omega ar
 
 -- r is what `choose_run` answered, v how many share
 module _ (m : Marked) (n k : ℕ) (r : Choice) (e : r ≡ choiceOf (choose n k (storedOf m))) where
-  pub place-none : (z : Answer) → r ≡ Nowhere → z ≡ refusal 0x93 5 → z ≡ placed (storedOf m) (choose n k (storedOf m))
+  pub place-none : r ≡ Nowhere → Refuse STORAGE-FULL no-run ≡ placed (storedOf m) (choose n k (storedOf m))
   unfolding placed
-  place-none z h q = q ∙ rw (choice-nowhere (choose n k (storedOf m)) (sym e ∙ h))
+  place-none h = rw (choice-nowhere (choose n k (storedOf m)) (sym e ∙ h))
 
   module _ (s c v : ℕ) (h : r ≡ At s c) (f : v ≡ countBelow (m .count) (markAt (m .shares))) where
     g : v ≡ countBelow (m .count) (storedOf m .shares)
     g = shared-marks m v f
 
-    pub place-some : written s (v + c) ≡ placed (storedOf m) (choose n k (storedOf m))
+    pub place-some : Run s (v + c) ≡ placed (storedOf m) (choose n k (storedOf m))
     unfolding placed storedOf
     place-some = rw (choice-at (choose n k (storedOf m)) s c (sym e ∙ h), g)
 
@@ -72,19 +73,19 @@ placed-same g h nowhere a = refl
 placed-same g h (at s c) a = rw (shared-same g h a)
 
 -- checks 6 to 8: o is what the test of the revisions answered, t that of the marks
-module _ (old cand : List ℕ) (m : Marked) (k : ℕ) (z : Answer) (o : Bool) (f : o ≡ outdated old cand) where
-  pub marked-outdated : o ≡ true → z ≡ refusal 0x98 0 → z ≡ markedAnswer old cand (storedOf m) k
+module _ (old cand : List ℕ) (m : Marked) (k : ℕ) (o : Bool) (f : o ≡ outdated old cand) where
+  pub marked-outdated : o ≡ true → Refuse INVALID-REVISION none ≡ markedPlan old cand (storedOf m) k
   unfolding unless
-  marked-outdated h q = rw (← f, h) q
+  marked-outdated h = rw (← f, h)
 
   module _ (newer : o ≡ false) (t : Bool) (g : t ≡ anyBelow (m .count) (bothAt (m .shares) (m .needed))) where
     both-is : t ≡ anyBelow (storedOf m .count) (bothMarks (storedOf m))
     both-is = both-marks-is m t g
 
-    pub marked-both : t ≡ true → z ≡ refusal 0x93 4 → z ≡ markedAnswer old cand (storedOf m) k
+    pub marked-both : t ≡ true → Refuse STORAGE-FULL sharing-needed ≡ markedPlan old cand (storedOf m) k
     unfolding unless
-    marked-both h q = rw (← f, newer, ← both-is, h) q
+    marked-both h = rw (← f, newer, ← both-is, h)
 
-    pub marked-placed : t ≡ false → z ≡ placed (storedOf m) (choose (length old / 2048) k (storedOf m)) → z ≡ markedAnswer old cand (storedOf m) k
+    pub marked-placed : (z : Plan) → t ≡ false → z ≡ placed (storedOf m) (choose (length old / 2048) k (storedOf m)) → z ≡ markedPlan old cand (storedOf m) k
     unfolding unless blockCount
-    marked-placed h q = rw (← f, newer, ← both-is, h) q
+    marked-placed z h q = rw (← f, newer, ← both-is, h) q

@@ -1,5 +1,6 @@
 // The marks of the stored updates against a candidate, and whether one of them is as new.
 ghost use mathlib.Core.Path.{_≡_};
+ghost use Rattle.processor_list.specs.Processors.{listOf};
 ghost use mathlib.Core.Bool.{false, _&&_};
 ghost use Prim.Native.Nat.{_≤_};
 ghost use lib.ListN.{length};
@@ -26,8 +27,8 @@ pub fn mark(
 ) -> Marked
     requires { ⌜ d ≡ directory (now store) ⌝ }
     requires { ⌜ (length (now signatures) ≤ 8) × (length (now signatures) ≡ length (now platforms)) ⌝ }
-    requires { ⌜ Covered (now signatures) (now platforms) (now candidate) marks ⌝ }
-    ensures { λ r. ⌜ Marks (now (store .entry)) (now (signatures .entry)) (now (platforms .entry)) (now (candidate .entry)) r ⌝ }
+    requires { ⌜ Covered (listOf (now signatures) (now platforms)) (now candidate) marks ⌝ }
+    ensures { λ r. ⌜ Marks (now (store .entry)) (listOf (now (signatures .entry)) (now (platforms .entry))) (now (candidate .entry)) r ⌝ }
 {
     let data = fields::data_size(candidate);
     let pairs = update_coverage::pair_count(candidate);

@@ -7,12 +7,13 @@ use borrow.Author.Needs.{needs}
 use Rattle.laws.specs.Below.{anyBelow}
 use Rattle.laws.specs.Loops.{scan}
 use Rattle.laws.specs.Arrays.{markAt}
+use Rattle.processor_list.specs.Processors.{listOf}
 use Rattle.processor_list.specs.Covered.{neededByMarks}
 use Rattle.processor_list.proofs.is_needed.Statement.{statement}
 use Rattle.processor_list.proofs.is_needed.Tie as tie
 
 abbrev Inv-loop : tie.InvT-loop
-Inv-loop signatures platforms u d n marks i₀ i = (i ≤ length signatures) × (anyBelow i (neededByMarks signatures platforms marks u) ≡ false)
+Inv-loop signatures platforms u d n marks i₀ i = (i ≤ length signatures) × (anyBelow i (neededByMarks (listOf signatures platforms) marks u) ≡ false)
 
 abbrev μ-loop : tie.MeasureT-loop
 μ-loop signatures platforms u d n marks i₀ i = length signatures - i
