@@ -3,3 +3,4 @@ pub mod Presence
 pub mod Read
 pub mod PresenceLaws
 pub mod ReadLaws
+pub mod ReadRefusals
