@@ -15,6 +15,7 @@ use Rattle.laws.specs.Bools.{and-parts}
 use Rattle.laws.specs.First.{first-is}
 use Rattle.laws.specs.Unless.{unless}
 use Rattle.update_header.specs.Fields.{revision, dataSize}
+use Rattle.update_header.specs.DataPart.{dataPart}
 use Rattle.store_blocks.specs.Blocks.{fromBlock, blockCount}
 use Rattle.update_coverage.specs.Covers.{covers}
 use Rattle.update_verdict.specs.VerdictLaws.{judged, good-size}
@@ -22,7 +23,6 @@ use Rattle.store_directory.specs.Scan.{slotAt, first, storeOk}
 use Rattle.store_directory.specs.SlotLaws.{slotted}
 use Rattle.store_directory.specs.ValidLaws.{store-valid}
 use Rattle.call_answers.specs.declared.answer.Answer.the-variants.{Refused}
-use Rattle.update_view.specs.View.{dataPart}
 use Rattle.load_choice.specs.Load.{holds, holder, chosenAt, found, loadChoice, chosenData}
 use Rattle.call_answers.specs.declared.choice.LoadChoice.{LoadChoice}
 use Rattle.call_answers.specs.declared.choice.LoadChoice.the-variants as choice

@@ -3,15 +3,15 @@
 --   viewedBy    the bytes that a view of s holds, by the verdict on s
 --   viewed      those
 --   isUpdate    there are bytes
---   dataPart    the data bytes
 --   summaryOf   the numbers that a view of the bytes v gives
--- The header fields are those of `update` (`Fields`): a byte behind the end reads as 0.
+-- The header fields and the data bytes are those of `update_header` (`Fields`, `DataPart`): a byte behind the end reads as 0.
 use Prim.Native.Nat.{ℕ}
 use mathlib.Core.Bool.{Bool}
 use mathlib.Core.List.{List, []}
-use lib.ListN.{length, take, drop}
+use lib.ListN.{length, take}
 use lib.Dec.{ltb}
-use Rattle.update_header.specs.Fields.{revision, date, signature, flags, dataSize}
+use Rattle.update_header.specs.Fields.{revision, date, signature, flags}
+use Rattle.update_header.specs.DataPart.{dataPart}
 use Rattle.update_verdict.specs.Verdict.{verdict}
 use Rattle.update_verdict.specs.declared.Verdict.{Verdict}
 use Rattle.update_verdict.specs.declared.Verdict.the-variants.{Good, BadHeader, BadSum}
@@ -27,9 +27,6 @@ viewed s = viewedBy s (verdict s)
 
 abbrev pub isUpdate : List ℕ → Bool
 isUpdate v = ltb 0 (length v)
-
-unfoldable pub dataPart : List ℕ → List ℕ
-dataPart v = take (dataSize v) (drop 48 v)
 
 abbrev pub summaryOf : List ℕ → Summary
 summaryOf v = record {

@@ -2,9 +2,11 @@
 // data. Each takes the view apart and calls a function of a plain slice. A caller that wants the numbers by value calls `summary`.
 ghost use mathlib.Core.Path.{_≡_};
 ghost use lib.ListN.{length};
+ghost use Rattle.update_header.specs.DataPart.{dataPart};
 ghost use Rattle.update_header.specs.Fields.{revision, date, signature, flags};
-ghost use Rattle.update_view.specs.View.{viewed, isUpdate, dataPart, summaryOf};
+ghost use Rattle.update_view.specs.View.{viewed, isUpdate, summaryOf};
 use crate::parts::Summary;
+use update_header::data::data_part;
 use update_header::fields;
 
 pub mod parts;
@@ -68,7 +70,7 @@ pub fn total_size<'a>(v: UpdateView<'a>) -> usize
 pub fn data<'a>(v: UpdateView<'a>) -> &'a [u8]
     ensures { λ r. ⌜ now r ≡ dataPart (now (v .entry .bytes)) ⌝ }
 {
-    parts::data_part(v.bytes)
+    data_part(v.bytes)
 }
 
 // All but the data, by value, of the update that begins the slice.

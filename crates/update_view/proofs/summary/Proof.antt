@@ -28,8 +28,9 @@ use denote.Steps.{peeks, nothing}
 use denote.Struct.Laws as LL
 use denote.Triple.Statement.{Contract, Triple}
 use denote.Triple.Table.{cited}
+use Rattle.update_header.specs.DataPart.{dataPart}
 use Rattle.update_header.specs.Fields.{revision, date, signature, flags}
-use Rattle.update_view.specs.View.{viewed, isUpdate, dataPart, summaryOf}
+use Rattle.update_view.specs.View.{viewed, isUpdate, summaryOf}
 use Rattle.update_view.specs.declared.UpdateView.{UpdateView}
 use Rattle.update_view.specs.declared.parts.Summary.{Summary}
 use Rattle.update_view.proofs.UpdateView as T
