@@ -2,16 +2,19 @@
 ghost use mathlib.Core.Path.{_≡_};
 ghost use lib.ListN.{length};
 ghost use Rattle.update_header.specs.DataPart.{dataPart};
-ghost use Rattle.update_view.specs.View.{viewed, isUpdate};
+ghost use Rattle.update_view.specs.View.{viewed, holdsBytes};
 use update_header::data::data_part;
 use update_verdict::Verdict;
 
 // The numbers that a view gives, by value.
 pub struct Summary {
     pub ok: bool,
+    pub header_version: u32,
     pub revision: u32,
     pub date: u32,
     pub signature: u32,
+    pub checksum: u32,
+    pub loader_version: u32,
     pub flags: u32,
     pub data_size: usize,
     pub total_size: usize,
@@ -36,8 +39,8 @@ pub fn front(s: &[u8]) -> &[u8]
     }
 }
 
-pub fn is_update(s: &[u8]) -> bool
-    ensures { λ r. ⌜ r ≡ isUpdate (now (s .entry)) ⌝ }
+pub fn holds_bytes(s: &[u8]) -> bool
+    ensures { λ r. ⌜ r ≡ holdsBytes (now (s .entry)) ⌝ }
 {
     0 < s.len()
 }
