@@ -1,7 +1,7 @@
 // The load choice, laid out in 16 words.
 ghost use mathlib.Core.Path.{_≡_};
+ghost use Rattle.load_choice.specs.LoadBounds.{StartBelow32};
 ghost use Rattle.board_load_words.specs.LoadWords.{loadAx, loadWords};
-ghost use Rattle.board_load_words.specs.LoadWordLaws.{StartBelow32};
 use call_answers::choice::LoadChoice;
 use update_header::fields;
 

@@ -6,9 +6,9 @@ use mathlib.Core.Path.{_≡_}
 use mathlib.Core.Bool.{true, false}
 use mathlib.Core.List.{List}
 use Rattle.update_header.specs.Fields.{revision}
+use Rattle.update_header.specs.DataPart.{dataPart}
 use Rattle.update_coverage.specs.Covers.{covers}
 use Rattle.processor_list.specs.Processors.{ProcessorList, Listed}
-use Rattle.update_view.specs.View.{dataPart}
 use Rattle.load_choice.specs.Load.{loadChoice, chosenData}
 use Rattle.call_answers.specs.declared.choice.LoadChoice.the-variants.{Chosen}
 

@@ -23,6 +23,7 @@ use Rattle.laws.specs.Below.{all-at, anyBelow, any-at, any-fails}
 use Rattle.laws.specs.Same.{same-less}
 use Rattle.laws.specs.Unless.{unless}
 use Rattle.update_header.specs.Fields.{revision, totalSize}
+use Rattle.update_header.specs.DataPart.{dataPart}
 use Rattle.update_sizes.specs.Sizes.{blocksOf}
 use Rattle.update_verdict.specs.Verdict.{verdict}
 use Rattle.update_verdict.specs.VerdictLaws.{good-size, good-blocks}
@@ -46,10 +47,9 @@ use Rattle.write_call.specs.Planned.{Planned, plan-written}
 use Rattle.processor_list.specs.ListLaws.{good-list}
 use Rattle.write_call.specs.Chosen.{planned-best}
 use Rattle.write_call.specs.Answered.{answer-plan}
-use Rattle.update_view.specs.View.{dataPart}
-use Rattle.update_view.specs.ViewLaws.{part-local}
 use Rattle.load_choice.specs.Load.{holds, chosenAt, found, loadChoice, chosenData}
 use Rattle.load_choice.specs.LoadLaws.{holder-one, holder-none}
+use Rattle.load_choice.specs.DataLaws.{part-local}
 use Rattle.load_choice.specs.AfterWrite.{SameLoad, LoadsAfter}
 use Rattle.call_answers.specs.declared.choice.LoadChoice.the-variants.{Nothing, Chosen}
 

@@ -13,8 +13,8 @@ use lib.Dec.{leb, ltb}
 use Rattle.laws.specs.First.{firstBelow}
 use Rattle.laws.specs.Unless.{unless}
 use Rattle.update_header.specs.Fields.{revision}
+use Rattle.update_header.specs.DataPart.{dataPart}
 use Rattle.update_coverage.specs.Covers.{covers}
-use Rattle.update_view.specs.View.{dataPart}
 use Rattle.store_blocks.specs.Blocks.{fromBlock, blockCount}
 use Rattle.store_directory.specs.Scan.{first, storeOk}
 use Rattle.call_answers.specs.declared.choice.LoadChoice.{LoadChoice}

@@ -5,8 +5,8 @@ ghost use Rattle.store_directory.specs.Scan.{directory};
 ghost use Rattle.load_choice.specs.Load.{found, loadChoice, chosenData};
 use call_answers::choice::LoadChoice;
 use store_directory::Directory;
+use update_header::data::data_part;
 use update_header::fields;
-use update_view::parts;
 
 // The stored update that covers the processor, by the directory of the store.
 fn find(store: &[u8], d: Directory, signature: u32, platform: u32) -> LoadChoice
@@ -54,7 +54,7 @@ pub fn data_of(store: &[u8], choice: LoadChoice) -> &[u8]
     ensures { λ r. ⌜ now r ≡ chosenData (now (store .entry)) choice ⌝ }
 {
     match choice {
-        LoadChoice::Chosen { start, revision: _ } => parts::data_part(store_blocks::from_block(
+        LoadChoice::Chosen { start, revision: _ } => data_part(store_blocks::from_block(
             store,
             start,
         )),

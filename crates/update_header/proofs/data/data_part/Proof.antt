@@ -1,8 +1,8 @@
--- `update_view::parts::data_part` meets its contract: the bytes behind the header, as many as there are.
+-- `update_header::data::data_part` meets its contract: the bytes behind the header, as many as there are.
 use borrow.Author.Needs.{needs}
-use Rattle.update_view.specs.ViewLaws.{parting}
-use Rattle.update_view.proofs.parts.data_part.Statement.{statement}
-use Rattle.update_view.proofs.parts.data_part.Tie as tie
+use Rattle.update_header.specs.DataPartLaws.{parting}
+use Rattle.update_header.proofs.data.data_part.Statement.{statement}
+use Rattle.update_header.proofs.data.data_part.Tie as tie
 
 pub data-part-spec : {M : Type 1} → statement M
 data-part-spec =

@@ -1,7 +1,8 @@
--- What a load choice says of the store, as its words need it.
---   Choice, chosen    a valid update begins at a chosen start
---   load-inside       it begins below block 32
---   load-part         the offset and the number of the words name a part of the store, and it is the chosen data
+-- A chosen update lies in the store.
+--   chosen         an update of a valid store begins at a chosen start
+--   load-inside    it begins below block 32
+--   load-small     the same of a start, from the choice
+--   load-part      its data bytes lie in the store, and are the chosen data
 use Prim.Native.Nat.{ℕ, _+_, _*_, _<_, _≤_}
 use mathlib.Core.Path.{_≡_, refl, sym, ap, _∙_}
 use mathlib.Core.Bool.{Bool, true, false}
@@ -15,24 +16,17 @@ use Rattle.laws.specs.Bools.{and-parts}
 use Rattle.laws.specs.First.{first-is}
 use Rattle.laws.specs.Unless.{unless}
 use Rattle.update_header.specs.Fields.{revision, dataSize}
+use Rattle.update_header.specs.DataPart.{dataPart}
 use Rattle.store_blocks.specs.Blocks.{fromBlock, blockCount}
 use Rattle.update_coverage.specs.Covers.{covers}
 use Rattle.update_verdict.specs.VerdictLaws.{judged, good-size}
 use Rattle.store_directory.specs.Scan.{slotAt, first, storeOk}
 use Rattle.store_directory.specs.SlotLaws.{slotted}
 use Rattle.store_directory.specs.ValidLaws.{store-valid}
-use Rattle.call_answers.specs.declared.answer.Answer.the-variants.{Refused}
-use Rattle.update_view.specs.View.{dataPart}
 use Rattle.load_choice.specs.Load.{holds, holder, chosenAt, found, loadChoice, chosenData}
 use Rattle.call_answers.specs.declared.choice.LoadChoice.{LoadChoice}
 use Rattle.call_answers.specs.declared.choice.LoadChoice.the-variants as choice
-use Rattle.board_load_words.specs.LoadWordLaws.{StartBelow32}
-
--- a choice, taken apart: the store is valid, and an update begins at the start
-pub record Choice (s : List ℕ) (b : ℕ) : Type 0 where
-  pub ok : storeOk s ≡ true
-  pub below : b < blockCount s
-  pub begun : first s b ≡ true
+use Rattle.load_choice.specs.LoadBounds.{StartBelow32, Choice}
 
 chosen-at : (s : List ℕ) (a b r : ℕ) (t : Bool) → ltb a (blockCount s) ≡ t → unless t choice.Nothing (choice.Chosen a (revision (fromBlock s a))) ≡ choice.Chosen b r → (a ≡ b) × (a < blockCount s)
 unfolding unless
@@ -56,7 +50,11 @@ pub load-inside : (c : LoadChoice) (loading : Bool) (s : List ℕ) (x p : ℕ) �
 unfolding StartBelow32
 load-inside c loading s x p e b r h = let y = chosen loading s x p b r (sym h ∙ e) in omega (arith, y .below, store-valid s (y .ok) .few)
 
--- the offset and the number of the words name a part of the store, and it is the chosen data
+pub load-small : (c : LoadChoice) (b r : ℕ) → StartBelow32 c → c ≡ choice.Chosen b r → b < 32
+unfolding StartBelow32
+load-small c b r i h = i b r h
+
+-- its data bytes lie in the store, and are the chosen data
 pub load-part : (loading : Bool) (s : List ℕ) (x p b r : ℕ) → choice.Chosen b r ≡ loadChoice loading s x p
     → (b * 2048 + 48 + dataSize (fromBlock s b) ≤ length s) × (take (dataSize (fromBlock s b)) (drop (b * 2048 + 48) s) ≡ chosenData s (loadChoice loading s x p))
 unfolding chosenData dataPart slotAt
