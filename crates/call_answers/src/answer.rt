@@ -4,9 +4,6 @@ ghost use Rattle.call_answers.specs.Answers.{refusal};
 
 // The bytes INTE and LPEP, the loader version, the number of blocks.
 pub struct Presence {
-    pub ah: u8,
-    pub al: u8,
-    pub carry: bool,
     pub byte0: u8,
     pub byte1: u8,
     pub byte2: u8,
@@ -17,39 +14,42 @@ pub struct Presence {
     pub byte7: u8,
     pub loader_version: u32,
     pub blocks: u32,
+    pub ah: u8,
+    pub al: u8,
+    pub carry: bool,
 }
 
 // The start block, and how many stored updates were emptied.
 pub struct Written {
+    pub start: u32,
+    pub emptied: u32,
     pub ah: u8,
     pub al: u8,
     pub carry: bool,
-    pub start: u32,
-    pub emptied: u32,
 }
 
 // 1 for loading on, 0 for off.
 pub struct Control {
+    pub status: u8,
     pub ah: u8,
     pub al: u8,
     pub carry: bool,
-    pub status: u8,
 }
 
 // How many blocks were copied.
 pub struct Read {
+    pub blocks: u32,
     pub ah: u8,
     pub al: u8,
     pub carry: bool,
-    pub blocks: u32,
 }
 
 // The codes; the status is FFh for a control call refused for its task, else 0.
 pub struct Refused {
+    pub status: u8,
     pub ah: u8,
     pub al: u8,
     pub carry: bool,
-    pub status: u8,
 }
 
 pub enum Answer {

@@ -4,5 +4,3 @@ pub mod LoadBounds
 pub mod LoadLaws
 pub mod LoadBoundLaws
 pub mod DataLaws
-pub mod AfterWrite
-pub mod AfterWriteLaws

@@ -17,6 +17,7 @@ use Rattle.update_header.specs.DataPart.{dataPart}
 use Rattle.update_coverage.specs.Covers.{covers}
 use Rattle.store_blocks.specs.Blocks.{fromBlock, blockCount}
 use Rattle.store_directory.specs.Scan.{first, storeOk}
+use Rattle.call_answers.specs.Codes.{READ-FAILURE, bad-store, bad-processors}
 use Rattle.call_answers.specs.declared.choice.LoadChoice.{LoadChoice}
 use Rattle.call_answers.specs.declared.choice.LoadChoice.the-variants.{Refused, Nothing, Chosen}
 
@@ -35,8 +36,8 @@ found s x p = chosenAt s (holder s x p)
 
 unfoldable pub loadChoice : Bool → List ℕ → ℕ → ℕ → LoadChoice
 loadChoice loading s x p =
-    unless (storeOk s) (Refused 0x92 1)
-    (unless (leb p 7) (Refused 0x92 2)
+    unless (storeOk s) (Refused READ-FAILURE bad-store)
+    (unless (leb p 7) (Refused READ-FAILURE bad-processors)
     (unless loading Nothing
     (found s x p)))
 

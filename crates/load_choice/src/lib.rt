@@ -4,6 +4,7 @@ ghost use mathlib.Core.Bool.{true};
 ghost use Rattle.store_directory.specs.Scan.{directory};
 ghost use Rattle.load_choice.specs.Load.{found, loadChoice, chosenData};
 use call_answers::choice::LoadChoice;
+use call_answers::code;
 use store_directory::Directory;
 use update_header::data::data_part;
 use update_header::fields;
@@ -42,10 +43,16 @@ pub fn choose(loading: bool, store: &[u8], signature: u32, platform: u32) -> Loa
                 LoadChoice::Nothing
             }
         } else {
-            LoadChoice::Refused { ah: 0x92, al: 2 }
+            LoadChoice::Refused {
+                ah: code::READ_FAILURE,
+                al: code::BAD_PROCESSORS,
+            }
         }
     } else {
-        LoadChoice::Refused { ah: 0x92, al: 1 }
+        LoadChoice::Refused {
+            ah: code::READ_FAILURE,
+            al: code::BAD_STORE,
+        }
     }
 }
 

@@ -2,17 +2,18 @@
 --   listed                 a return at each test, as `search` takes it
 --   GoodList, good-list    what a right list says, from what a call answered
 --   list-few, list-same, list-right    parts of it
+--   listed-platform        a platform of a right list is at most 7
 use Prim.Native.Nat.{ℕ, _<_, _≤_}
 use mathlib.Core.Path.{_≡_, refl, sym, _∙_}
 use mathlib.Core.Bool.{Bool, true, false, _&&_}
 use mathlib.Core.List.{List}
 use native.Mathlib.Omega.{arith}
-use lib.ListN.{length}
+use lib.ListN.{length, getD}
 use lib.Dec.{leb, eqb}
 use borrow.Author.Tests.{eq-eqb, ne-eqb, le-leb, lt-leb, leb-true, eqb-true}
 use Rattle.laws.specs.Bools.{and-parts}
-use Rattle.laws.specs.Below.{allBelow, all-stop}
-use Rattle.processor_list.specs.Processors.{ProcessorList, platformOk, listOk}
+use Rattle.laws.specs.Below.{allBelow, all-stop, all-at}
+use Rattle.processor_list.specs.Processors.{ProcessorList, platformOk, listOk, Listed}
 
 module _ (list : ProcessorList) where
   pub list-unequal : (length (list .signatures) ≡ length (list .platforms) → ⊥) → false ≡ listOk list
@@ -75,3 +76,10 @@ list-same list h = good-list list (listOk list) refl h .same
 
 pub list-right : (list : ProcessorList) (r : Bool) → r ≡ listOk list → r ≡ true → listOk list ≡ true
 list-right list r e h = sym e ∙ h
+
+pub listed-platform : (list : ProcessorList) (x p : ℕ) → listOk list ≡ true → Listed list x p → p ≤ 7
+unfolding platformOk
+listed-platform list x p ok w =
+    let g = good-list list (listOk list) refl ok in
+    let q = leb-true (getD (list .platforms) (w .number) 0) 7 (all-at (platformOk (list .platforms)) (length (list .platforms)) (w .number) (g .low) (omega (arith, g .same, w .within))) in
+    rw (w .platform) at q

@@ -1,9 +1,4 @@
 -- What a processor loads after a write, proved.
---   part-local        an update's data are settled by its T bytes
---   revision-local    and so is its revision
---   choice-one        in a valid store the update that covers the processor is chosen
---   choice-none       and nothing where none covers it
---   listed-platform   a listed platform is at most 7
 --   gets-candidate    after a legal outcome a processor that the candidate covers gets the candidate
 --   gets-kept         and a listed one that it doesn't cover what it got before
 --   load-candidate    the first, of an accepted write
@@ -15,13 +10,12 @@ use mathlib.Core.Path.{_≡_, refl, sym, ap, _∙_}
 use mathlib.Core.Bool.{Bool, true, false, _||_, true≢false, or-true}
 use mathlib.Core.List.{List}
 use native.Mathlib.Omega.{arith}
-use lib.ListN.{length, getD}
+use lib.ListN.{length}
 use lib.Dec.{eqb}
-use borrow.Author.Tests.{lt-ltb, le-ltb, le-leb, leb-true, eqb-true, eq-eqb}
+use borrow.Author.Tests.{eqb-true, eq-eqb}
 use Rattle.laws.specs.Bools.{and-parts, and-made, no-true}
-use Rattle.laws.specs.Below.{all-at, anyBelow, any-at, any-fails}
+use Rattle.laws.specs.Below.{anyBelow, any-at, any-fails}
 use Rattle.laws.specs.Same.{same-less}
-use Rattle.laws.specs.Unless.{unless}
 use Rattle.update_header.specs.Fields.{revision, totalSize}
 use Rattle.update_header.specs.DataPart.{dataPart}
 use Rattle.update_sizes.specs.Sizes.{blocksOf}
@@ -34,7 +28,7 @@ use Rattle.update_verdict.specs.declared.Verdict.the-variants.{Good}
 use Rattle.store_blocks.specs.Blocks.{fromBlock, blockCount}
 use Rattle.store_directory.specs.Scan.{slotAt, first, storeOk}
 use Rattle.store_directory.specs.SlotLaws.{slotted, slot-inside}
-use Rattle.processor_list.specs.Processors.{ProcessorList, platformOk, listOk, Listed}
+use Rattle.processor_list.specs.Processors.{ProcessorList, Listed}
 use Rattle.write_outcome.specs.Legal.{Legal}
 use Rattle.write_outcome.specs.After.{kept, after, After}
 use Rattle.write_outcome.specs.AfterLaws.{outcome-after}
@@ -42,32 +36,17 @@ use Rattle.write_outcome.specs.KeptLaws.{kept-parts, kept-made, kept-update}
 use Rattle.call_answers.specs.declared.answer.Written.{Written as WrittenNumbers}
 use Rattle.call_answers.specs.declared.answer.Refused.{Refused as RefusedNumbers}
 use Rattle.call_answers.specs.declared.answer.Answer.the-variants as answers
-use Rattle.write_call.specs.Write.{emptiedAt, bytesAfter, writeAnswer, writeBytes}
-use Rattle.write_call.specs.Planned.{Planned, plan-written}
-use Rattle.processor_list.specs.ListLaws.{good-list}
+use Rattle.write_call.specs.Write.{emptiedAt, writeAnswer, writeBytes}
+use Rattle.write_call.specs.Planned.{Planned, plan-run}
+use Rattle.processor_list.specs.ListLaws.{listed-platform}
 use Rattle.write_call.specs.Chosen.{planned-best}
-use Rattle.write_call.specs.Answered.{answer-plan}
-use Rattle.load_choice.specs.Load.{holds, chosenAt, found, loadChoice, chosenData}
-use Rattle.load_choice.specs.LoadLaws.{holder-one, holder-none}
+use Rattle.write_call.specs.Answered.{answer-plan, answer-bytes}
+use Rattle.write_call.specs.Refusals.{write-refused}
+use Rattle.load_choice.specs.Load.{holds, loadChoice, chosenData}
+use Rattle.load_choice.specs.LoadLaws.{choice-one, choice-none}
 use Rattle.load_choice.specs.DataLaws.{part-local}
-use Rattle.load_choice.specs.AfterWrite.{SameLoad, LoadsAfter}
-use Rattle.call_answers.specs.declared.choice.LoadChoice.the-variants.{Nothing, Chosen}
-
-module _ (s : List ℕ) (ok : storeOk s ≡ true) (x p : ℕ) (l : p ≤ 7) where
-  pub choice-one : (b : ℕ) → b < blockCount s → first s b ≡ true → covers (fromBlock s b) x p ≡ true → loadChoice true s x p ≡ Chosen b (revision (fromBlock s b))
-  unfolding loadChoice found chosenAt unless
-  choice-one b m f h = rw (ok, le-leb p 7 l, holder-one s ok x p b m f h, lt-ltb b (blockCount s) m)
-
-  pub choice-none : ((b : ℕ) → b < blockCount s → first s b ≡ true → covers (fromBlock s b) x p ≡ false) → loadChoice true s x p ≡ Nothing
-  unfolding loadChoice found chosenAt unless
-  choice-none h = rw (ok, le-leb p 7 l, holder-none s ok x p h, le-ltb (blockCount s) (blockCount s) (omega arith))
-
-pub listed-platform : (list : ProcessorList) (x p : ℕ) → listOk list ≡ true → Listed list x p → p ≤ 7
-unfolding platformOk
-listed-platform list x p ok w =
-    let g = good-list list (listOk list) refl ok in
-    let q = leb-true (getD (list .platforms) (w .number) 0) 7 (all-at (platformOk (list .platforms)) (length (list .platforms)) (w .number) (g .low) (omega (arith, g .same, w .within))) in
-    rw (w .platform) at q
+use Rattle.load_after_write.specs.AfterWrite.{SameLoad, LoadsAfter}
+use Rattle.call_answers.specs.declared.choice.LoadChoice.the-variants.{Chosen}
 
 -- a legal outcome, from old to new, with the set e of emptied updates
 module _ (old : List ℕ) (list : ProcessorList) (cand new : List ℕ) (t d n k start : ℕ) (e : ℕ → Bool)
@@ -155,16 +134,15 @@ module _ (old : List ℕ) (list : ProcessorList) (cand : List ℕ) (back : ℕ) 
 
   -- an accepted write
   module _ (a : WrittenNumbers) (w : writeAnswer old list cand back ≡ answers.Written a) where
-    plan : Planned old list cand a
-    plan = plan-written old list cand a (answer-plan old list cand back a w)
+    plan : Planned old list cand (a .start) (a .emptied)
+    plan = plan-run old list cand (a .start) (a .emptied) (answer-plan old list cand back a w)
 
     legal : Legal old list cand (totalSize cand) (a .start) (emptiedAt old cand (a .start))
-    legal = planned-best old list cand a plan .legal
+    legal = planned-best old list cand (a .start) (a .emptied) plan .legal
 
     left : After old new cand (totalSize cand) (plan .data) (plan .entries) (blocksOf (totalSize cand)) (a .start) (emptiedAt old cand (a .start))
-    unfolding writeBytes bytesAfter
     left =
-        rw w
+        rw (answer-bytes old list cand back a w)
         (outcome-after old list cand (totalSize cand) (plan .data) (plan .entries) (blocksOf (totalSize cand)) (a .start) (emptiedAt old cand (a .start))
         (plan .store) (plan .good) legal)
 
@@ -177,7 +155,7 @@ module _ (old : List ℕ) (list : ProcessorList) (cand : List ℕ) (back : ℕ) 
     pub load-kept : (x p : ℕ) → Listed list x p → covers cand x p ≡ false → SameLoad old new x p
     load-kept x p y =
         gets-kept old list cand new (totalSize cand) (plan .data) (plan .entries) (blocksOf (totalSize cand)) (a .start) (emptiedAt old cand (a .start))
-        (plan .store) (plan .good) legal left x p (listed-platform list x p (plan .list) y) y
+        (plan .store) (plan .good) legal left x p (listed-platform list x p (plan .good-list) y) y
 
     pub loads-after : LoadsAfter old list cand (a .start) new
     loads-after = record {
@@ -186,5 +164,4 @@ module _ (old : List ℕ) (list : ProcessorList) (cand : List ℕ) (back : ℕ) 
     }
 
   pub load-refused : (r : RefusedNumbers) → writeAnswer old list cand back ≡ answers.Refused r → new ≡ old
-  unfolding writeBytes bytesAfter
-  load-refused r w = rw w
+  load-refused r w = write-refused old list cand back r w
