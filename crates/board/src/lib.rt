@@ -1,5 +1,6 @@
 // The board's C interface: the proved calls, and their answers laid out in 16 words.
 ghost use mathlib.Core.Path.{_≡_};
+ghost use Rattle.processor_list.specs.Processors.{listOf};
 ghost use lib.ListN.{length};
 ghost use Rattle.call_dispatch.specs.Call.{callReply, callStore, callDestination};
 ghost use Rattle.load_choice.specs.Load.{loadChoice};
@@ -22,9 +23,9 @@ pub extern "C" fn update_store_call(
     destination: &mut [u8],
     answer: &mut [u32; 16],
 ) -> u32
-    ensures result { λ r. ⌜ r ≡ axOf (callReply function «sub_function» task block loading (now (store .entry)) (now (signatures .entry)) (now (platforms .entry)) (now (candidate .entry)) «read_back» (length (now (destination .entry))) .answer) ⌝ }
-    ensures answers { λ r. ⌜ now (answer .exit) ≡ callWords (callReply function «sub_function» task block loading (now (store .entry)) (now (signatures .entry)) (now (platforms .entry)) (now (candidate .entry)) «read_back» (length (now (destination .entry)))) ⌝ }
-    ensures stores { λ r. ⌜ now (store .exit) ≡ callStore function «sub_function» (now (store .entry)) (now (signatures .entry)) (now (platforms .entry)) (now (candidate .entry)) «read_back» ⌝ }
+    ensures result { λ r. ⌜ r ≡ axOf (callReply function «sub_function» task block loading (now (store .entry)) (listOf (now (signatures .entry)) (now (platforms .entry))) (now (candidate .entry)) «read_back» (length (now (destination .entry))) .answer) ⌝ }
+    ensures answers { λ r. ⌜ now (answer .exit) ≡ callWords (callReply function «sub_function» task block loading (now (store .entry)) (listOf (now (signatures .entry)) (now (platforms .entry))) (now (candidate .entry)) «read_back» (length (now (destination .entry)))) ⌝ }
+    ensures stores { λ r. ⌜ now (store .exit) ≡ callStore function «sub_function» (now (store .entry)) (listOf (now (signatures .entry)) (now (platforms .entry))) (now (candidate .entry)) «read_back» ⌝ }
     ensures copies { λ r. ⌜ now (destination .exit) ≡ callDestination function «sub_function» block (now (store .entry)) (now (destination .entry)) ⌝ }
 {
     if function != 0xD042 {

@@ -1,9 +1,12 @@
-// The answers of the calls: an enum with a struct in each case.
+// The answers of the calls: an enum with a struct in each case, which holds the codes and the case's numbers.
 ghost use mathlib.Core.Path.{_≡_};
 ghost use Rattle.call_answers.specs.Answers.{refusal};
 
 // The bytes INTE and LPEP, the loader version, the number of blocks.
 pub struct Presence {
+    pub ah: u8,
+    pub al: u8,
+    pub carry: bool,
     pub byte0: u8,
     pub byte1: u8,
     pub byte2: u8,
@@ -18,17 +21,26 @@ pub struct Presence {
 
 // The start block, and how many stored updates were emptied.
 pub struct Written {
+    pub ah: u8,
+    pub al: u8,
+    pub carry: bool,
     pub start: u32,
     pub emptied: u32,
 }
 
 // 1 for loading on, 0 for off.
 pub struct Control {
+    pub ah: u8,
+    pub al: u8,
+    pub carry: bool,
     pub status: u8,
 }
 
 // How many blocks were copied.
 pub struct Read {
+    pub ah: u8,
+    pub al: u8,
+    pub carry: bool,
     pub blocks: u32,
 }
 
@@ -36,6 +48,7 @@ pub struct Read {
 pub struct Refused {
     pub ah: u8,
     pub al: u8,
+    pub carry: bool,
     pub status: u8,
 }
 
@@ -57,5 +70,10 @@ pub struct Reply {
 pub fn refuse(ah: u8, al: u8) -> Answer
     ensures { λ r. ⌜ r ≡ refusal ah al ⌝ }
 {
-    Answer::Refused(Refused { ah, al, status: 0 })
+    Answer::Refused(Refused {
+        ah,
+        al,
+        carry: true,
+        status: 0,
+    })
 }

@@ -34,7 +34,7 @@ use Rattle.update_verdict.specs.declared.Verdict.the-variants.{Good}
 use Rattle.store_blocks.specs.Blocks.{fromBlock, blockCount}
 use Rattle.store_directory.specs.Scan.{slotAt, first, storeOk}
 use Rattle.store_directory.specs.SlotLaws.{slotted, slot-inside}
-use Rattle.processor_list.specs.Processors.{platformOk, listOk, Listed}
+use Rattle.processor_list.specs.Processors.{ProcessorList, platformOk, listOk, Listed}
 use Rattle.write_outcome.specs.Legal.{Legal}
 use Rattle.write_outcome.specs.After.{kept, after, After}
 use Rattle.write_outcome.specs.AfterLaws.{outcome-after}
@@ -42,7 +42,7 @@ use Rattle.write_outcome.specs.KeptLaws.{kept-parts, kept-made, kept-update}
 use Rattle.call_answers.specs.declared.answer.Written.{Written as WrittenNumbers}
 use Rattle.call_answers.specs.declared.answer.Refused.{Refused as RefusedNumbers}
 use Rattle.call_answers.specs.declared.answer.Answer.the-variants as answers
-use Rattle.write_call.specs.Write.{goes, bytesAfter, writeAnswer, writeBytes}
+use Rattle.write_call.specs.Write.{emptiedAt, bytesAfter, writeAnswer, writeBytes}
 use Rattle.write_call.specs.Planned.{Planned, plan-written}
 use Rattle.processor_list.specs.ListLaws.{good-list}
 use Rattle.write_call.specs.Chosen.{planned-best}
@@ -62,16 +62,16 @@ module _ (s : List ℕ) (ok : storeOk s ≡ true) (x p : ℕ) (l : p ≤ 7) wher
   unfolding loadChoice found chosenAt unless
   choice-none h = rw (ok, le-leb p 7 l, holder-none s ok x p h, le-ltb (blockCount s) (blockCount s) (omega arith))
 
-pub listed-platform : (signatures platforms : List ℕ) (x p : ℕ) → listOk signatures platforms ≡ true → Listed signatures platforms x p → p ≤ 7
+pub listed-platform : (list : ProcessorList) (x p : ℕ) → listOk list ≡ true → Listed list x p → p ≤ 7
 unfolding platformOk
-listed-platform signatures platforms x p ok w =
-    let g = good-list signatures platforms (listOk signatures platforms) refl ok in
-    let q = leb-true (getD platforms (w .number) 0) 7 (all-at (platformOk platforms) (length platforms) (w .number) (g .low) (omega (arith, g .same, w .within))) in
+listed-platform list x p ok w =
+    let g = good-list list (listOk list) refl ok in
+    let q = leb-true (getD (list .platforms) (w .number) 0) 7 (all-at (platformOk (list .platforms)) (length (list .platforms)) (w .number) (g .low) (omega (arith, g .same, w .within))) in
     rw (w .platform) at q
 
 -- a legal outcome, from old to new, with the set e of emptied updates
-module _ (old signatures platforms cand new : List ℕ) (t d n k start : ℕ) (e : ℕ → Bool)
-    (ok : storeOk old ≡ true) (good : verdict cand ≡ Good t d n k) (legal : Legal old signatures platforms cand t start e)
+module _ (old : List ℕ) (list : ProcessorList) (cand new : List ℕ) (t d n k start : ℕ) (e : ℕ → Bool)
+    (ok : storeOk old ≡ true) (good : verdict cand ≡ Good t d n k) (legal : Legal old list cand t start e)
     (left : After old new cand t d n k start e) where
   blocks : blockCount new ≡ blockCount old
   unfolding blockCount
@@ -111,7 +111,7 @@ module _ (old signatures platforms cand new : List ℕ) (t d n k start : ℕ) (e
       )
 
   -- a listed processor that the candidate doesn't cover
-  module _ (x p : ℕ) (l : p ≤ 7) (w : Listed signatures platforms x p) (h : covers cand x p ≡ false) where
+  module _ (x p : ℕ) (l : p ≤ 7) (w : Listed list x p) (h : covers cand x p ≡ false) where
     -- some update of the old store covers it: that one is kept
     kept-one : (b : ℕ) → b < blockCount old → first old b ≡ true → covers (fromBlock old b) x p ≡ true → SameLoad old new x p
     unfolding after chosenData
@@ -149,42 +149,42 @@ module _ (old signatures platforms cand new : List ℕ) (t d n k start : ℕ) (e
             kept-none (λ b m f. no-true (covers (fromBlock old b) x p) (λ c.
             true≢false (sym (and-made f c) ∙ any-fails (holds old x p) (blockCount old) b q m)))
 
-module _ (old signatures platforms cand : List ℕ) (back : ℕ) where
+module _ (old : List ℕ) (list : ProcessorList) (cand : List ℕ) (back : ℕ) where
   abbrev new : List ℕ
-  new = writeBytes old signatures platforms cand back
+  new = writeBytes old list cand back
 
   -- an accepted write
-  module _ (a : WrittenNumbers) (w : writeAnswer old signatures platforms cand back ≡ answers.Written a) where
-    plan : Planned old signatures platforms cand a
-    plan = plan-written old signatures platforms cand a (answer-plan old signatures platforms cand back a w)
+  module _ (a : WrittenNumbers) (w : writeAnswer old list cand back ≡ answers.Written a) where
+    plan : Planned old list cand a
+    plan = plan-written old list cand a (answer-plan old list cand back a w)
 
-    legal : Legal old signatures platforms cand (totalSize cand) (a .start) (goes old cand (a .start))
-    legal = planned-best old signatures platforms cand a plan .legal
+    legal : Legal old list cand (totalSize cand) (a .start) (emptiedAt old cand (a .start))
+    legal = planned-best old list cand a plan .legal
 
-    left : After old new cand (totalSize cand) (plan .data) (plan .entries) (blocksOf (totalSize cand)) (a .start) (goes old cand (a .start))
+    left : After old new cand (totalSize cand) (plan .data) (plan .entries) (blocksOf (totalSize cand)) (a .start) (emptiedAt old cand (a .start))
     unfolding writeBytes bytesAfter
     left =
         rw w
-        (outcome-after old signatures platforms cand (totalSize cand) (plan .data) (plan .entries) (blocksOf (totalSize cand)) (a .start) (goes old cand (a .start))
+        (outcome-after old list cand (totalSize cand) (plan .data) (plan .entries) (blocksOf (totalSize cand)) (a .start) (emptiedAt old cand (a .start))
         (plan .store) (plan .good) legal)
 
     pub load-candidate : (x p : ℕ) → covers cand x p ≡ true
         → (loadChoice true new x p ≡ Chosen (a .start) (revision cand)) × (chosenData new (Chosen (a .start) (revision cand)) ≡ dataPart cand)
     load-candidate =
-        gets-candidate old signatures platforms cand new (totalSize cand) (plan .data) (plan .entries) (blocksOf (totalSize cand)) (a .start) (goes old cand (a .start))
+        gets-candidate old list cand new (totalSize cand) (plan .data) (plan .entries) (blocksOf (totalSize cand)) (a .start) (emptiedAt old cand (a .start))
         (plan .store) (plan .good) legal left
 
-    pub load-kept : (x p : ℕ) → Listed signatures platforms x p → covers cand x p ≡ false → SameLoad old new x p
+    pub load-kept : (x p : ℕ) → Listed list x p → covers cand x p ≡ false → SameLoad old new x p
     load-kept x p y =
-        gets-kept old signatures platforms cand new (totalSize cand) (plan .data) (plan .entries) (blocksOf (totalSize cand)) (a .start) (goes old cand (a .start))
-        (plan .store) (plan .good) legal left x p (listed-platform signatures platforms x p (plan .list) y) y
+        gets-kept old list cand new (totalSize cand) (plan .data) (plan .entries) (blocksOf (totalSize cand)) (a .start) (emptiedAt old cand (a .start))
+        (plan .store) (plan .good) legal left x p (listed-platform list x p (plan .list) y) y
 
-    pub loads-after : LoadsAfter old signatures platforms cand (a .start) new
+    pub loads-after : LoadsAfter old list cand (a .start) new
     loads-after = record {
       covered = λ x p h. let y = load-candidate x p h in (y .0, ap (chosenData new) (y .0) ∙ y .1);
       others = load-kept;
     }
 
-  pub load-refused : (r : RefusedNumbers) → writeAnswer old signatures platforms cand back ≡ answers.Refused r → new ≡ old
+  pub load-refused : (r : RefusedNumbers) → writeAnswer old list cand back ≡ answers.Refused r → new ≡ old
   unfolding writeBytes bytesAfter
   load-refused r w = rw w

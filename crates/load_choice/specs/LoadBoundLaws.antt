@@ -61,7 +61,7 @@ unfolding chosenData dataPart slotAt
 load-part loading s x p b r e =
     let y = chosen loading s x p b r e in
     let v = store-valid s (y .ok) in
-    let h = v .layout .held b (y .below) (y .begun) in
+    let h = v .layout .stored b (y .below) (y .begun) in
     let z = slotted (fromBlock s b) (h .0) (h .1) in
     let g = good-size (fromBlock s b) (z .total) (z .data) (z .entries) (h .0) (z .good) in
     let d = judged (fromBlock s b) (z .total) (z .data) (z .entries) (h .0) (z .good) .data in

@@ -25,8 +25,8 @@ use Rattle.update_verdict.specs.Sums.{sumOf, headerSum, entryOk, table, sumsOk}
 use Rattle.update_header.specs.Checks.{headerOk, sizesFit}
 use Rattle.update_verdict.specs.Verdict.{verdict}
 use Rattle.update_coverage.specs.Covers.{pairCount, signatureOffset, flagsOffset, signatureAt, flagsAt, platformsAt, names, pairCovers, coversAt, covers}
-use Rattle.write_marks.specs.Held.{Held}
-use Rattle.write_marks.specs.Against.{touches, goes, bars, loses, barred, lost}
+use Rattle.write_marks.specs.StoredUpdates.{StoredUpdates}
+use Rattle.write_marks.specs.Against.{touchesByNumber, emptiedByNumber, rulesOut, loses, ruledOut, lost}
 use Rattle.write_placement.specs.Choose.{choose}
 use Rattle.call_answers.specs.Answers.{refusal}
 use Rattle.bytes_copy.specs.Paste.{putAt}
@@ -46,24 +46,24 @@ p revision checksum =
     ++ replicate 2020 0
 
 -- stored updates by their starts and sizes, none of which shares; the last list says which cover a listed processor
-stored : List ℕ → List ℕ → List Bool → Held
+stored : List ℕ → List ℕ → List Bool → StoredUpdates
 stored starts sizes needed =
-    record { count = length starts; start = λ i. getD starts i 0; size = λ i. getD sizes i 0; shares = λ i. false; keeps = λ i. getD needed i false }
+    record { count = length starts; start = λ i. getD starts i 0; size = λ i. getD sizes i 0; shares = λ i. false; needed = λ i. getD needed i false }
 
 -- what check 8 answers of n blocks, of which k are wanted
-pub answer : ℕ → ℕ → Held → Answer
+pub answer : ℕ → ℕ → StoredUpdates → Answer
 answer n k h = placed h (choose n k h)
 
 -- stale, unused, unused, unused
-pub stale-first : Held
+pub stale-first : StoredUpdates
 stale-first = stored (0 ∷ []) (1 ∷ []) (false ∷ [])
 
 -- a stale update of two, a stale one of one, unused
-pub two-stale : Held
+pub two-stale : StoredUpdates
 two-stale = stored (0 ∷ 2 ∷ []) (2 ∷ 1 ∷ []) (false ∷ false ∷ [])
 
 -- needed, stale, needed, stale
-pub alternating : Held
+pub alternating : StoredUpdates
 alternating = stored (0 ∷ 1 ∷ 2 ∷ 3 ∷ []) (1 ∷ 1 ∷ 1 ∷ 1 ∷ []) (true ∷ false ∷ true ∷ false ∷ [])
 
 pub record Starred : Type 0 where
@@ -85,7 +85,7 @@ pub record Starred : Type 0 where
   pub needed-stale-needed-stale : answer 4 2 alternating ≡ refusal 0x93 5
 
 pub starred : Starred
-unfolding p bytes verdict unless headerOk sizesFit sumsOk table dwordSum dwordsOf total dword dataSize totalSize dataSizeOf totalSizeOf sizesOk tableCount entriesOf entryCount blocksOf allBelow entryOk entryOffset sumOf headerSum covers coversAt pairCovers pairCount signatureAt signatureOffset platformsAt flagsAt flagsOffset names bit anyBelow answer stored stale-first two-stale alternating placed choose least barred bars goes touches lost loses countBelow
+unfolding p bytes verdict unless headerOk sizesFit sumsOk table dwordSum dwordsOf total dword dataSize totalSize dataSizeOf totalSizeOf sizesOk tableCount entriesOf entryCount blocksOf allBelow entryOk entryOffset sumOf headerSum covers coversAt pairCovers pairCount signatureAt signatureOffset platformsAt flagsAt flagsOffset names bit anyBelow answer stored stale-first two-stale alternating placed choose least ruledOut rulesOut emptiedByNumber touchesByNumber lost loses countBelow
 starred =
     record {
       p-is-valid = refl;

@@ -1,4 +1,4 @@
--- `write_marks::torn` meets its contract. The loop's invariant: no update passed has both marks.
+-- `write_marks::both_marks` meets its contract. The loop's invariant: no update passed has both marks.
 use mir.Facts.{fits-below}
 use borrow.Author.Count.{falls}
 use borrow.Author.Needs.{needs}
@@ -11,14 +11,14 @@ use Rattle.laws.specs.Below.{anyBelow}
 use Rattle.laws.specs.Loops.{scan, scan-more}
 use Rattle.write_marks.specs.StoredMarks.{bothAt}
 use Rattle.laws.specs.Arrays.{markAt}
-use Rattle.write_marks.proofs.torn.Statement.{statement}
-use Rattle.write_marks.proofs.torn.Tie as tie
+use Rattle.write_marks.proofs.both_marks.Statement.{statement}
+use Rattle.write_marks.proofs.both_marks.Tie as tie
 
 abbrev Inv-loop : tie.InvT-loop
-Inv-loop shares keeps count i₀ i = (i ≤ count) × (anyBelow i (bothAt shares keeps) ≡ false)
+Inv-loop shares needed count i₀ i = (i ≤ count) × (anyBelow i (bothAt shares needed) ≡ false)
 
 abbrev μ-loop : tie.MeasureT-loop
-μ-loop shares keeps count i₀ i = count - i
+μ-loop shares needed count i₀ i = count - i
 
 -- update i stands within the arrays
 below : (c : tie.In-loop Inv-loop μ-loop) → c .before .loop .i < 32
@@ -30,9 +30,9 @@ loop-again c =
     let l = c .before .before .before .before in
     (add-one-le (l .loop-test .taken), scan-more _ _ _ (l .before .loop .inv .1) (c .before .both .ensures) (c .if1 .left))
 
-pub torn-spec : {M : Type 1} → statement M
+pub both-marks-spec : {M : Type 1} → statement M
 unfolding bothAt markAt
-torn-spec =
+both-marks-spec =
     tie.close
     (tie.spec
     Inv-loop

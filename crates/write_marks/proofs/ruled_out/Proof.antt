@@ -1,4 +1,4 @@
--- `write_marks::barred` meets its contract. The loop's invariant: no update passed rules the start out.
+-- `write_marks::ruled_out` meets its contract. The loop's invariant: no update passed rules the start out.
 use mir.Facts.{fits-below}
 use borrow.Author.Count.{falls}
 use borrow.Author.Needs.{needs}
@@ -9,30 +9,30 @@ use native.Mathlib.Nat.{lt-of-lt-of-le}
 use native.Mathlib.Numerals.{add-one-le}
 use Rattle.laws.specs.Below.{anyBelow}
 use Rattle.laws.specs.Loops.{scan, scan-more}
-use Rattle.write_marks.specs.Against.{touches, goes, bars, barred}
-use Rattle.write_marks.specs.StoredMarks.{held, marksOf}
-use Rattle.write_marks.proofs.barred.Statement.{statement}
-use Rattle.write_marks.proofs.barred.Tie as tie
+use Rattle.write_marks.specs.Against.{touchesByNumber, emptiedByNumber, rulesOut, ruledOut}
+use Rattle.write_marks.specs.StoredMarks.{storedOf, marksOf}
+use Rattle.write_marks.proofs.ruled_out.Statement.{statement}
+use Rattle.write_marks.proofs.ruled_out.Tie as tie
 
 abbrev Inv-loop : tie.InvT-loop
-Inv-loop starts sizes shares keeps count k s i₀ i = (i ≤ count) × (anyBelow i (bars (held (marksOf starts sizes shares keeps count)) k s) ≡ false)
+Inv-loop starts sizes shares needed count k s i₀ i = (i ≤ count) × (anyBelow i (rulesOut (storedOf (marksOf starts sizes shares needed count)) k s) ≡ false)
 
 abbrev μ-loop : tie.MeasureT-loop
-μ-loop starts sizes shares keeps count k s i₀ i = count - i
+μ-loop starts sizes shares needed count k s i₀ i = count - i
 
 -- update i stands within the arrays
 below : (c : tie.In-loop Inv-loop μ-loop) → c .before .loop .i < 32
 below c = lt-of-lt-of-le (c .loop-test .taken) (c .before .before .pre)
 
 loop-again : tie.Need-loop-again Inv-loop μ-loop
-unfolding bars goes touches held
+unfolding rulesOut emptiedByNumber touchesByNumber storedOf
 loop-again c =
     let l = c .before .before .before .before .before .before in
-    (add-one-le (l .loop-test .taken), scan-more _ _ _ (l .before .loop .inv .1) (c .before .bars .ensures) (c .if1 .left))
+    (add-one-le (l .loop-test .taken), scan-more _ _ _ (l .before .loop .inv .1) (c .before .rules-out .ensures) (c .if1 .left))
 
-pub barred-spec : {M : Type 1} → statement M
-unfolding barred bars goes touches held
-barred-spec =
+pub ruled-out-spec : {M : Type 1} → statement M
+unfolding ruledOut rulesOut emptiedByNumber touchesByNumber storedOf
+ruled-out-spec =
     tie.close
     (tie.spec
     Inv-loop
