@@ -1,5 +1,5 @@
 -- The walk of the directory's entries, by which the code makes the text.
---   longestLine    a line has at most so many bytes: four numbers of two digits, eight hex digits, and a byte behind each
+--   longestNumber, longestLine    at most so many bytes: two digits and a byte behind them; four such numbers, eight hex digits and a byte
 --   entryLine      the line of entry i
 --   entriesTo      the lines of the entries below i
 --   usedTo         how many blocks these have
@@ -9,6 +9,9 @@ use mathlib.Core.List.{List, [], _++_}
 use Rattle.store_directory.specs.DirectoryLaws.{startOf, sizeOf}
 use Rattle.store_directory.specs.declared.Directory.{Directory}
 use Rattle.report_catalogue.specs.Catalogue.{catalogueLine}
+
+abbrev pub longestNumber : ℕ
+longestNumber = 3
 
 abbrev pub longestLine : ℕ
 longestLine = 21

@@ -5,15 +5,15 @@ ghost use mathlib.Core.List.{[], _∷_, _++_};
 ghost use Rattle.report_text.specs.Digits.{TwoDigits, decimal};
 ghost use Rattle.report_text.specs.Texts.{textRoom, added};
 ghost use Rattle.report_catalogue.specs.Catalogue.{lineOf, catalogueLine};
-ghost use Rattle.report_catalogue.specs.Walk.{longestLine};
+ghost use Rattle.report_catalogue.specs.Walk.{longestNumber, longestLine};
 use report_text::Text;
 use update_coverage::platforms;
 use update_header::fields;
 
 // A number and the byte behind it.
 pub fn number(t: Text, n: u32, end: u8) -> Text
-    requires { ⌜ TwoDigits n × (t .len + 3 ≤ textRoom) ⌝ }
-    ensures { λ r. ⌜ (r ≡ added t (decimal n ++ (end ∷ []))) × (r .len ≤ t .len + 3) ⌝ }
+    requires { ⌜ TwoDigits n × (t .len + longestNumber ≤ textRoom) ⌝ }
+    ensures { λ r. ⌜ (r ≡ added t (decimal n ++ (end ∷ []))) × (r .len ≤ t .len + longestNumber) ⌝ }
 {
     report_text::byte(report_text::decimal(t, n), end)
 }
