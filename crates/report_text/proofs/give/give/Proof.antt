@@ -1,5 +1,6 @@
 -- `report_text::give::give` meets its contract: the text is copied if it fits.
 use mathlib.Core.Path.{_≡_}
+use Prim.Native.Nat.{_<_, _≤_}
 use lib.ListN.{length}
 use borrow.Author.Needs.{needs, length-unmapped}
 use native.Mathlib.Omega.{arith}
@@ -13,12 +14,14 @@ returns : tie.Need-returns
 returns c =
     let s = c .before .before .before .before .before .before .before .before in
     let e = text-length (s .args .t) (search length-unmapped) (s .pre) in
+    let l : s .args .t .len ≤ length (s .args .out .now) = omega arith in
     (search giving, search giving)
 
 returns-2 : tie.Need-returns-2
 returns-2 c =
     let s = c .before .before in
     let e = text-length (s .args .t) (search length-unmapped) (s .pre) in
+    let l : length (s .args .out .now) < s .args .t .len = omega arith in
     (search giving, search giving)
 
 put-requires : tie.Need-put-requires
