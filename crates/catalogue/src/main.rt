@@ -2,15 +2,22 @@
 ghost use mathlib.Core.Path.{_≡_};
 ghost use lib.ListN.{length};
 ghost use Rattle.io.specs.Counts.{Counts};
+ghost use Rattle.report_catalogue.specs.Catalogue.{inputRoom};
 use libc::STDIN_FILENO;
 use libc::STDOUT_FILENO;
+use report_text::ROOM;
 use report_text::Report;
 
-// One byte more than the largest store has: more input than that makes no difference.
-fn space() -> [u8; 65537]
-    ensures { λ r. ⌜ 65537 ≡ length r ⌝ }
+// 32 blocks of 2,048 bytes.
+const LARGEST_STORE: usize = 65536;
+
+// One byte more: more input than that makes no difference.
+const INPUT_ROOM: usize = LARGEST_STORE + 1;
+
+fn space() -> [u8; INPUT_ROOM]
+    ensures { λ r. ⌜ inputRoom ≡ length r ⌝ }
 {
-    [0; 65537]
+    [0; INPUT_ROOM]
 }
 
 // Reads until the buffer is full or the input ends, however it arrives, and answers how many bytes there are.
@@ -30,9 +37,9 @@ fn read(buffer: &mut [u8]) -> usize
     have
 }
 
-// Writes the catalogue of the bytes. 1,024 bytes are enough for every text.
+// Writes the catalogue of the bytes. A text's room is enough for each.
 fn write(store: &[u8]) {
-    let mut out = [0u8; 1024];
+    let mut out = [0u8; ROOM];
     let answer = report_catalogue::catalogue(store, &mut out);
     match answer {
         Report::Text { length } => {

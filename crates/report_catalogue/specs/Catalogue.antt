@@ -1,19 +1,22 @@
 -- The catalogue of a store (document 01, "The catalogue"). Numbers are decimal, without padding, single spaces, one newline a line.
 --   space, newline .. badText      the fixed parts, in ASCII
+--   largestStore, inputRoom        the bytes of 32 blocks, and one more
 --   lineOf             the line of an update, of its five numbers
 --   catalogueLine      the line of the update of k blocks that begins at block b
 --   kindLine           what a block of a kind adds
 --   blockLine          what block b adds: the line of the update that begins there, or nothing
 --   linesTo            the lines of the updates that begin at the blocks below n, by start
---   oneIfFree          1 for an unused block, else 0
---   freeTo             how many of the blocks below n are unused
+--   isUnused, unusedAt     a kind is Unused; the kind of block b is
+--   freeCount          F, the count of unused blocks
 --   catalogueText      the whole text
 --   inputText          the text of any input
 use Prim.Native.Nat.{ℕ, zero, suc, _+_}
+use mathlib.Core.Bool.{Bool, true, false}
 use mathlib.Core.List.{List, [], _∷_, _++_}
 use lib.ListN.{length}
 use lib.Dec.{leb}
 use Rattle.laws.specs.Unless.{unless}
+use Rattle.laws.specs.Count.{countBelow}
 use Rattle.update_header.specs.Fields.{revision}
 use Rattle.update_coverage.specs.Platforms.{platformCount, lowestPlatform}
 use Rattle.store_blocks.specs.Blocks.{fromBlock, blockCount}
@@ -39,6 +42,12 @@ freeWord = 102 ∷ 114 ∷ 101 ∷ 101 ∷ 32 ∷ []
 abbrev pub badText : List ℕ
 badText = 98 ∷ 97 ∷ 100 ∷ 32 ∷ 115 ∷ 116 ∷ 111 ∷ 114 ∷ 101 ∷ 10 ∷ []
 
+abbrev pub largestStore : ℕ
+largestStore = 65536
+
+abbrev pub inputRoom : ℕ
+inputRoom = largestStore + 1
+
 -- its start, blocks, revision in eight upper-case hex digits, how many platforms the header flags name, and the lowest platform
 unfoldable pub lineOf : ℕ → ℕ → ℕ → ℕ → ℕ → List ℕ
 lineOf start blocks revision platforms lowest =
@@ -59,15 +68,16 @@ unfoldable pub linesTo : List ℕ → ℕ → List ℕ
 linesTo s zero = []
 linesTo s (suc b) = linesTo s b ++ blockLine s b
 
--- 1 of an unused block, 0 of any other
-unfoldable pub oneIfFree : Kind → ℕ
-oneIfFree Unused = 1
-oneIfFree (First k) = 0
-oneIfFree Later = 0
+abbrev pub isUnused : Kind → Bool
+isUnused Unused = true
+isUnused (First k) = false
+isUnused Later = false
 
-unfoldable pub freeTo : List ℕ → ℕ → ℕ
-freeTo s zero = 0
-freeTo s (suc b) = freeTo s b + oneIfFree (kindAt s b)
+unfoldable pub unusedAt : List ℕ → ℕ → Bool
+unusedAt s b = isUnused (kindAt s b)
+
+unfoldable pub freeCount : List ℕ → ℕ
+freeCount s = countBelow (blockCount s) (unusedAt s)
 
 -- the line `blocks N`; per update, by start, its line; then the line `free F`. Of a bad store `bad store` and a newline only
 unfoldable pub catalogueText : List ℕ → List ℕ
@@ -75,8 +85,8 @@ catalogueText s =
     unless (storeOk s) badText
     (blocksWord ++ (decimal (blockCount s) ++ newline)
     ++ linesTo s (blockCount s)
-    ++ freeWord ++ (decimal (freeTo s (blockCount s)) ++ newline))
+    ++ freeWord ++ (decimal (freeCount s) ++ newline))
 
 -- "for a bad store or more than 65,536 bytes it writes `bad store` and a newline only"
 unfoldable pub inputText : List ℕ → List ℕ
-inputText all = unless (leb (length all) 65536) badText (catalogueText all)
+inputText all = unless (leb (length all) largestStore) badText (catalogueText all)

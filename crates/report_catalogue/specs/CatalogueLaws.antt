@@ -1,81 +1,81 @@
--- Laws of the whole text: the loop over the blocks, and the two ways to the text.
---   count-is         a store has so many blocks as the code counts
---   kind-is          the kind that a call gave by the directory
---   lines-none, free-none     before the first block
---   lines-more       what block b adds to the lines
---   free-more        what it adds to the count of unused blocks
---   text-good, text-bad     the text, from what the calls gave
---   input-listed     65,537 bytes of any input are enough for its text
-use Prim.Native.Nat.{ℕ, _+_, _*_, _/_, _<_, _≤_}
-use mathlib.Core.Path.{_≡_, refl, _∙_}
+-- Laws of the whole text: the walk of the entries, and the two ways to the text.
+--   count-is, count-small    a store has so many blocks as the code counts, and no more than 32
+--   head-long                the first line's word
+--   walk-none                before the first entry
+--   walk-more                what an entry adds to the lines
+--   text-good, text-bad      the text, from what the calls gave
+--   text-short               it has no more bytes than the text that was made
+--   input-listed             one byte more than the largest store has is enough of any input
+use Prim.Native.Nat.{ℕ, _+_, _/_, _<_, _≤_}
+use mathlib.Core.Path.{_≡_, refl, sym, _∙_}
 use mathlib.Core.Bool.{true, false}
-use mathlib.Core.List.{List, [], _++_}
+use mathlib.Core.List.{List, _++_}
 use native.Mathlib.Omega.{arith}
-use native.Mathlib.Numerals.{add-one}
 use mathlib.Core.Logic.{⊎-elim}
-use lib.ListN.{length, take}
+use lib.ListN.{length, take, length-take}
 use lib.Seq.{take-all, length-take-le}
 use borrow.Author.Tests.{le-leb, lt-leb}
 use Rattle.laws.specs.Orders.{le-or-lt}
 use Rattle.laws.specs.Unless.{unless}
 use Rattle.store_blocks.specs.Blocks.{blockCount, lengthOk}
 use Rattle.store_directory.specs.Scan.{storeOk, directory}
-use Rattle.store_directory.specs.Kind.{kindAt, kindIn}
 use Rattle.store_directory.specs.StoreLaws.{directory-ok}
-use Rattle.store_directory.specs.DirectoryLaws.{kind-law}
-use Rattle.store_directory.specs.declared.kind.Kind.{Kind}
+use Rattle.store_directory.specs.ValidLaws.{store-valid}
+use Rattle.store_directory.specs.DirectoryLaws.{startOf, sizeOf}
 use Rattle.store_directory.specs.declared.Directory.{Directory}
 use Rattle.report_text.specs.Digits.{decimal}
-use Rattle.report_catalogue.specs.Catalogue.{newline, blocksWord, freeWord, badText, blockLine, linesTo, oneIfFree, freeTo, catalogueText, inputText}
-use Rattle.report_text.specs.Texts.{Added, added-none, added-both}
+use Rattle.report_text.specs.Texts.{textRoom, noText, added, textOf}
+use Rattle.report_text.specs.TextLaws.{added-none, added-more, added-long, none-long, made-text}
 use Rattle.report_text.specs.declared.Text.{Text}
-
--- d is the local that holds the directory
-module _ (s : List ℕ) (d : Directory) (e : d ≡ directory s) where
-  pub text-bad : (empty text : List ℕ) → d .ok ≡ false → empty ≡ [] → text ≡ empty ++ badText → text ≡ catalogueText s
-  unfolding catalogueText unless
-  text-bad empty text f g h = rw (← directory-ok s d e, f, h, g)
+use Rattle.report_catalogue.specs.Catalogue.{newline, blocksWord, freeWord, badText, largestStore, inputRoom, catalogueLine, linesTo, freeCount, catalogueText, inputText}
+use Rattle.report_catalogue.specs.Walk.{entryLine, entriesTo, usedTo}
+use Rattle.report_catalogue.specs.WalkLaws.{entries-none, entries-more, lines-entries, free-entries}
 
 pub count-is : (s : List ℕ) → length s / 2048 ≡ blockCount s
 unfolding blockCount
 count-is s = refl
 
-pub kind-is : (s : List ℕ) (d : Directory) (n b : ℕ) (kind : Kind) → storeOk s ≡ true → d ≡ directory s → n ≡ blockCount s → b < n → kind ≡ kindIn d b → kind ≡ kindAt s b
-kind-is s d n b kind ok e f l h = h ∙ kind-law s ok d e b (rw f at l)
+pub count-small : (s : List ℕ) (n : ℕ) → storeOk s ≡ true → n ≡ blockCount s → n ≤ 32
+count-small s n ok e = omega (arith, store-valid s ok .few)
 
-pub lines-none : (s : List ℕ) (t : Text) (k : ℕ) → Added t t (linesTo s 0) k
-unfolding linesTo
-lines-none s t k = added-none t k
+pub head-long : (t r : Text) → t ≡ noText → r ≡ added t blocksWord → r .len ≡ 7
+head-long t r e f = omega (arith, none-long t e, added-long t r blocksWord f)
 
-pub lines-more : (s : List ℕ) (b : ℕ) (t u r : Text) → Added t u (linesTo s b) (21 * b) → Added u r (blockLine s b) 21 → Added t r (linesTo s (b + 1)) (21 * (b + 1))
-unfolding linesTo
-lines-more s b t u r h k = added-both t u r (linesTo s b) (blockLine s b) (linesTo s (b + 1)) (21 * b) 21 (21 * (b + 1)) k h (rw (add-one b)) (omega arith)
+pub walk-none : (s : List ℕ) (d : Directory) (t : Text) → t ≡ added t (entriesTo s d 0)
+walk-none s d t = rw (entries-none s d) (added-none t)
 
-pub free-none : (s : List ℕ) → 0 ≡ freeTo s 0
-unfolding freeTo
-free-none s = refl
+-- b and k are what was read of entry i
+pub walk-more : (s : List ℕ) (d : Directory) (i b k : ℕ) (t u r : Text) → b ≡ startOf d i → k ≡ sizeOf d i → u ≡ added t (entriesTo s d i) → r ≡ added u (catalogueLine s b k)
+    → r ≡ added t (entriesTo s d (i + 1))
+walk-more s d i b k t u r e f g h = rw (entries-more s d i, ← e, ← f) (added-more t u r (entriesTo s d i) (catalogueLine s b k) g h)
 
-pub free-more : (s : List ℕ) (b free one : ℕ) (kind : Kind) → free ≡ freeTo s b → kind ≡ kindAt s b → one ≡ oneIfFree kind → free + one ≡ freeTo s (b + 1)
-unfolding freeTo
-free-more s b free one kind e f g = rw (add-one b, ← e, ← f, g)
+-- d is the local that holds the directory
+module _ (s : List ℕ) (d : Directory) (e : d ≡ directory s) where
+  pub text-bad : (empty text : Text) → d .ok ≡ false → empty ≡ noText → text ≡ added empty badText → text ≡ added noText (catalogueText s)
+  unfolding catalogueText unless
+  text-bad empty text f g h = rw (← directory-ok s d e, f, h, g)
 
--- what stands before the lines, with them, before the last number, and the whole
-pub text-good : (s : List ℕ) (empty word head lines foot text : List ℕ) (n b free : ℕ) → storeOk s ≡ true → n ≡ blockCount s → b ≤ n → n ≤ b → free ≡ freeTo s b
-    → empty ≡ [] → word ≡ empty ++ blocksWord → head ≡ word ++ (decimal n ++ newline) → lines ≡ head ++ linesTo s b → foot ≡ lines ++ freeWord → text ≡ foot ++ (decimal free ++ newline)
-    → text ≡ catalogueText s
-unfolding catalogueText unless
-text-good s empty word head lines foot text n b free ok e l m f g h i j k o =
-    let q : b ≡ blockCount s = omega arith in
-    rw (ok, o, k, j, i, h, g, f, q, e)
+  -- what stands before the lines, with them, before the last number, and the whole
+  pub text-good : (empty word head lines foot text : Text) (n i free : ℕ) → storeOk s ≡ true → n ≡ blockCount s → i ≤ d .count → d .count ≤ i → free + usedTo d i ≡ n
+      → empty ≡ noText → word ≡ added empty blocksWord → head ≡ added word (decimal n ++ newline) → lines ≡ added head (entriesTo s d i)
+      → foot ≡ added lines freeWord → text ≡ added foot (decimal free ++ newline) → text ≡ added noText (catalogueText s)
+  unfolding catalogueText unless
+  text-good empty word head lines foot text n i free ok c l m f g h j k o p =
+      let q : freeCount s ≡ free = omega (arith, free-entries s ok d e i l m) in
+      rw (ok, lines-entries s ok d e i l m, q, ← c, ← g)
+      (added-more _ _ _ _ _ (added-more _ _ _ _ _ (added-more _ _ _ _ _ (added-more _ _ _ _ _ h j) k) o) p)
+
+pub text-short : (s : List ℕ) (t : Text) → t ≡ added noText (catalogueText s) → t .len ≤ textRoom → length (catalogueText s) ≤ textRoom
+text-short s t e l = rw (← made-text t (catalogueText s) e) (omega (arith, length-take (t .len) (t .bytes)))
 
 -- more bytes than 32 blocks have are no store
-long-bad : (s : List ℕ) → length s ≡ 65537 → catalogueText s ≡ badText
+long-bad : (s : List ℕ) → length s ≡ inputRoom → catalogueText s ≡ badText
 unfolding catalogueText unless storeOk lengthOk
 long-bad s e = rw e
 
-pub input-listed : (all : List ℕ) → catalogueText (take 65537 all) ≡ inputText all
+pub input-listed : (all : List ℕ) → catalogueText (take inputRoom all) ≡ inputText all
 unfolding inputText unless
 input-listed all =
-    ⊎-elim (λ (h : length all ≤ 65536). rw (take-all 65537 all (omega arith), le-leb (length all) 65536 h))
-    (λ (h : 65536 < length all). rw (lt-leb (length all) 65536 h) (long-bad (take 65537 all) (length-take-le 65537 all (omega arith))))
-    (le-or-lt (length all) 65536)
+    ⊎-elim (λ (h : length all ≤ largestStore). rw (take-all inputRoom all (omega arith), le-leb (length all) largestStore h))
+    (λ (h : largestStore < length all). rw (lt-leb (length all) largestStore h) (long-bad (take inputRoom all) (length-take-le inputRoom all (omega arith))))
+    (le-or-lt (length all) largestStore)

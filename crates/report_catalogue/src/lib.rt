@@ -7,29 +7,31 @@ ghost use Prim.Native.Nat.{_≤_};
 ghost use lib.ListN.{length};
 ghost use Rattle.store_blocks.specs.Blocks.{blockCount};
 ghost use Rattle.store_directory.specs.Scan.{storeOk, directory};
+ghost use Rattle.report_text.specs.Texts.{textRoom, noText, added};
 ghost use Rattle.report_catalogue.specs.Catalogue.{catalogueText};
 ghost use Rattle.report_catalogue.specs.Reported.{reported, reportedBytes};
-ghost use Rattle.report_text.specs.Texts.{textOf};
 use report_text::Report;
 use report_text::Text;
 use report_text::give;
 use store_directory::Directory;
-use store_directory::kind;
 
-// The text of a valid store of `n` blocks, whose directory `d` is.
+const BLOCK: usize = 2048;
+
+// The text of a valid store of `n` blocks, whose directory `d` is. A block that no entry has is unused.
 fn listing(s: &[u8], d: Directory, n: u32) -> Text
-    requires { ⌜ (storeOk (now s) ≡ true) × (d ≡ directory (now s)) × (n ≡ blockCount (now s)) × (n ≤ 32) ⌝ }
-    ensures { λ r. ⌜ (textOf r ≡ catalogueText (now (s .entry))) × (r .len ≤ 1024) ⌝ }
+    requires { ⌜ (storeOk (now s) ≡ true) × (d ≡ directory (now s)) × (n ≡ blockCount (now s)) ⌝ }
+    ensures { λ r. ⌜ (r ≡ added noText (catalogueText (now (s .entry)))) × (r .len ≤ textRoom) ⌝ }
 {
     let head = report_text::word(report_text::empty(), b"blocks ");
     let mut t = lines::number(head, n, b'\n');
-    let mut free: u32 = 0;
-    let mut b: u32 = 0;
-    while b < n {
-        let found = kind::block_kind(d, b);
-        t = lines::block_line(t, s, b, found);
-        free += lines::one_if_free(found);
-        b += 1;
+    let mut free: u32 = n;
+    let mut i: usize = 0;
+    while i < d.count {
+        let start = bytes_dwords::wide(d.starts[i]);
+        let size = bytes_dwords::wide(d.sizes[i]);
+        t = lines::update_line(t, s, start, size);
+        free -= size;
+        i += 1;
     }
     let foot = report_text::word(t, b"free ");
     lines::number(foot, free, b'\n')
@@ -37,22 +39,22 @@ fn listing(s: &[u8], d: Directory, n: u32) -> Text
 
 // The text of any bytes, taken as a store.
 fn text_of(s: &[u8]) -> Text
-    ensures { λ r. ⌜ (textOf r ≡ catalogueText (now (s .entry))) × (r .len ≤ 1024) ⌝ }
+    ensures { λ r. ⌜ (r ≡ added noText (catalogueText (now (s .entry)))) × (r .len ≤ textRoom) ⌝ }
 {
     let d = store_directory::read_store(s);
     let ok = d.ok;
     if ok {
-        listing(s, d, (s.len() / 2048) as u32)
+        listing(s, d, (s.len() / BLOCK) as u32)
     } else {
         report_text::word(report_text::empty(), b"bad store\n")
     }
 }
 
-// Writes the catalogue of any bytes, taken as a store, into `out`. No text has more than 1,024 bytes.
+// Writes the catalogue of any bytes, taken as a store, into `out`. A text's room is always enough.
 pub fn catalogue(store: &[u8], out: &mut [u8]) -> Report
     ensures { λ r. ⌜ r ≡ reported (now (store .entry)) (length (now (out .entry))) ⌝ }
     ensures { λ _. ⌜ now (out .exit) ≡ reportedBytes (now (store .entry)) (now (out .entry)) ⌝ }
-    ensures { λ _. ⌜ length (catalogueText (now (store .entry))) ≤ 1024 ⌝ }
+    ensures { λ _. ⌜ length (catalogueText (now (store .entry))) ≤ textRoom ⌝ }
 {
     give::give(text_of(store), out)
 }

@@ -1,65 +1,45 @@
 // The lines of the catalogue.
 ghost use mathlib.Core.Path.{_≡_};
-ghost use mathlib.Core.Bool.{true};
-ghost use Prim.Native.Nat.{_+_, _≤_, _<_};
+ghost use Prim.Native.Nat.{_+_, _≤_};
 ghost use mathlib.Core.List.{[], _∷_, _++_};
-ghost use Rattle.store_blocks.specs.Blocks.{blockCount};
-ghost use Rattle.store_directory.specs.Scan.{storeOk};
-ghost use Rattle.store_directory.specs.Kind.{kindAt};
-ghost use Rattle.report_text.specs.Digits.{decimal};
-ghost use Rattle.report_catalogue.specs.Catalogue.{lineOf, blockLine, oneIfFree};
-ghost use Rattle.report_text.specs.Texts.{Added};
+ghost use Rattle.report_text.specs.Digits.{TwoDigits, decimal};
+ghost use Rattle.report_text.specs.Texts.{textRoom, added};
+ghost use Rattle.report_catalogue.specs.Catalogue.{lineOf, catalogueLine};
+ghost use Rattle.report_catalogue.specs.Walk.{longestNumber, longestLine};
 use report_text::Text;
-use store_directory::kind::Kind;
+use update_coverage::platforms;
 use update_header::fields;
 
-// A number below 100 and the byte behind it.
+// A number and the byte behind it.
 pub fn number(t: Text, n: u32, end: u8) -> Text
-    requires { ⌜ (n < 100) × (t .len + 3 ≤ 1024) ⌝ }
-    ensures { λ r. ⌜ Added t r (decimal n ++ (end ∷ [])) 3 ⌝ }
+    requires { ⌜ TwoDigits n × (t .len + longestNumber ≤ textRoom) ⌝ }
+    ensures { λ r. ⌜ (r ≡ added t (decimal n ++ (end ∷ []))) × (r .len ≤ t .len + longestNumber) ⌝ }
 {
     report_text::byte(report_text::decimal(t, n), end)
 }
 
-// The line of an update.
+// The line of an update, of its five numbers.
 fn line(t: Text, start: u32, size: u32, revision: u32, count: u32, lowest: u32) -> Text
-    requires { ⌜ (start < 100) × (size < 100) × (count < 100) × (lowest < 100) × (t .len + 21 ≤ 1024) ⌝ }
-    ensures { λ r. ⌜ Added t r (lineOf start size revision count lowest) 21 ⌝ }
+    requires { ⌜ TwoDigits start × TwoDigits size × TwoDigits count × TwoDigits lowest × (t .len + longestLine ≤ textRoom) ⌝ }
+    ensures { λ r. ⌜ (r ≡ added t (lineOf start size revision count lowest)) × (r .len ≤ t .len + longestLine) ⌝ }
 {
     let head = number(number(t, start, b' '), size, b' ');
     let middle = report_text::byte(report_text::hex8(head, revision), b' ');
     number(number(middle, count, b' '), lowest, b'\n')
 }
 
-// What block `b` of a valid store adds, `kind` being its kind.
-pub fn block_line(t: Text, s: &[u8], b: u32, kind: Kind) -> Text
-    requires { ⌜ (storeOk (now s) ≡ true) × (b < blockCount (now s)) × (kind ≡ kindAt (now s) b) × (t .len + 21 ≤ 1024) ⌝ }
-    ensures { λ r. ⌜ Added t r (blockLine (now (s .entry)) b) 21 ⌝ }
+// The line of the update of `size` blocks that begins at block `start`.
+pub fn update_line(t: Text, s: &[u8], start: u32, size: u32) -> Text
+    requires { ⌜ TwoDigits start × TwoDigits size × (t .len + longestLine ≤ textRoom) ⌝ }
+    ensures { λ r. ⌜ (r ≡ added t (catalogueLine (now (s .entry)) start size)) × (r .len ≤ t .len + longestLine) ⌝ }
 {
-    match kind {
-        Kind::Unused => t,
-        Kind::First { blocks: size } => {
-            let u = store_blocks::from_block(s, b);
-            line(
-                t,
-                b,
-                size,
-                fields::revision(u),
-                update_coverage::platforms::platform_count(u),
-                update_coverage::platforms::lowest_platform(u),
-            )
-        }
-        Kind::Later => t,
-    }
-}
-
-// How many unused blocks a block of this kind adds.
-pub fn one_if_free(kind: Kind) -> u32
-    ensures { λ r. ⌜ (r ≡ oneIfFree kind) × (r ≤ 1) ⌝ }
-{
-    match kind {
-        Kind::Unused => 1,
-        Kind::First { blocks: _ } => 0,
-        Kind::Later => 0,
-    }
+    let u = store_blocks::from_block(s, start);
+    line(
+        t,
+        start,
+        size,
+        fields::revision(u),
+        platforms::platform_count(u),
+        platforms::lowest_platform(u),
+    )
 }

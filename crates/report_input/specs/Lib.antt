@@ -1,2 +1,3 @@
 -- Input that arrives in pieces (document 01, "The catalogue": a program reads a store from standard input).
 pub mod Input
+pub mod InputLaws

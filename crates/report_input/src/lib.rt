@@ -1,9 +1,6 @@
 // Input that arrives in pieces, gathered in a lent buffer.
 ghost use mathlib.Core.Path.{_≡_};
-ghost use Prim.Native.Nat.{_+_};
-ghost use lib.ListN.{length};
-ghost use Rattle.bytes_copy.specs.Paste.{putAt};
-ghost use Rattle.report_input.specs.Input.{fitting};
+ghost use Rattle.report_input.specs.Input.{fitting, countWith, bytesWith};
 
 // How many of the `n` bytes of a piece a buffer of `size` bytes takes that holds `have`.
 fn fitting(size: usize, have: usize, n: usize) -> usize
@@ -17,8 +14,8 @@ fn fitting(size: usize, have: usize, n: usize) -> usize
 
 // Puts a piece behind the `have` bytes that the buffer holds, as far as there is room, and answers how many it holds now.
 pub fn add(buffer: &mut [u8], have: usize, piece: &[u8]) -> usize
-    ensures { λ r. ⌜ r ≡ have + fitting (length (now (buffer .entry))) have (length (now (piece .entry))) ⌝ }
-    ensures { λ _. ⌜ now (buffer .exit) ≡ putAt (now (buffer .entry)) have (now (piece .entry)) (fitting (length (now (buffer .entry))) have (length (now (piece .entry)))) ⌝ }
+    ensures { λ r. ⌜ r ≡ countWith (now (buffer .entry)) have (now (piece .entry)) ⌝ }
+    ensures { λ _. ⌜ now (buffer .exit) ≡ bytesWith (now (buffer .entry)) have (now (piece .entry)) ⌝ }
 {
     let n = fitting(buffer.len(), have, piece.len());
     let mut i: usize = 0;

@@ -1,17 +1,10 @@
 -- A text in a lent buffer of m bytes.
 --   given          the text's length: as `Text` where it fits, as `Short` where it doesn't
 --   givenBytes     the buffer afterwards: the text and what stood behind it, or all as it stood
---   giving         the two ways, as `search` takes them
---   given-inside, given-cut      a text that was given lies within the buffer, and its part there has its length
-use Prim.Native.Nat.{ℕ, _<_, _≤_}
-use mathlib.Core.Path.{_≡_, sym, _∙_}
-use mathlib.Core.Bool.{Bool, true, false}
+use Prim.Native.Nat.{ℕ}
 use mathlib.Core.List.{List, _++_}
-use lib.ListN.{length, take, drop, length-append}
-use lib.Seq.{length-take-le}
-use native.Mathlib.Omega.{arith}
+use lib.ListN.{length, drop}
 use lib.Dec.{leb}
-use borrow.Author.Tests.{le-leb, lt-leb}
 use Rattle.laws.specs.Unless.{unless}
 use Rattle.report_text.specs.declared.Report.{Report}
 use Rattle.report_text.specs.declared.Report.the-variants.{Text, Short}
@@ -21,37 +14,3 @@ given text m = unless (leb (length text) m) (Short (length text)) (Text (length 
 
 unfoldable pub givenBytes : List ℕ → List ℕ → List ℕ
 givenBytes text out = unless (leb (length text) (length out)) out (text ++ drop (length text) out)
-
--- n is the local that holds the length
-module _ (text : List ℕ) (n : ℕ) (e : length text ≡ n) where
-  pub given-fits : (m : ℕ) → n ≤ m → Text n ≡ given text m
-  unfolding given unless
-  given-fits m l = rw (e, le-leb n m l)
-
-  pub given-short : (m : ℕ) → m < n → Short n ≡ given text m
-  unfolding given unless
-  given-short m l = rw (e, lt-leb n m l)
-
-  module _ (out : List ℕ) where
-    pub bytes-fit : (r : List ℕ) → n ≤ length out → r ≡ text ++ drop n out → r ≡ givenBytes text out
-    unfolding givenBytes unless
-    bytes-fit r l h = rw (e, le-leb n (length out) l) h
-
-    pub bytes-short : length out < n → out ≡ givenBytes text out
-    unfolding givenBytes unless
-    bytes-short l = rw (e, lt-leb n (length out) l)
-
-pub ruleset giving = (given-fits, given-short, bytes-fit, bytes-short)
-
--- r and q are what a call answered, and left in the buffer
-module _ (text out q : List ℕ) (r : Report) (n : ℕ) (e : r ≡ given text (length out)) (f : q ≡ givenBytes text out) (h : r ≡ Text n) where
-  pub given-inside : n ≤ length q
-  unfolding given givenBytes unless
-  given-inside = go (leb (length text) (length out)) (sym h ∙ e) f
-    where
-      go : (t : Bool) → Text n ≡ unless t (Short (length text)) (Text (length text)) → q ≡ unless t out (text ++ drop (length text) out) → n ≤ length q
-      go true i j = let k : n ≡ length text = cc in rw j (omega (arith, length-append text (drop (length text) out)))
-      go false i j = absurd (let z : _≡_ {A = ℕ} 0 1 = cc in omega arith)
-
-  pub given-cut : n ≡ length (take n q)
-  given-cut = sym (length-take-le n q given-inside)

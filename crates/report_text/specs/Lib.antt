@@ -1,6 +1,8 @@
 -- Texts for people (document 01, "The catalogue"): numbers in digits, a text that is being made, and a text in a lent buffer.
 pub mod Digits
-pub mod Given
-pub mod Lists
 pub mod Texts
+pub mod Given
+pub mod ListLaws
 pub mod DigitLaws
+pub mod TextLaws
+pub mod GivenLaws

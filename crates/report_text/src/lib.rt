@@ -5,8 +5,11 @@ ghost use mathlib.Core.Path.{_≡_};
 ghost use Prim.Native.Nat.{_+_, _≤_, _<_};
 ghost use mathlib.Core.List.{[], _∷_};
 ghost use lib.ListN.{length};
-ghost use Rattle.report_text.specs.Digits.{decimal, hexDigit, hex8};
-ghost use Rattle.report_text.specs.Texts.{textOf, Added};
+ghost use Rattle.report_text.specs.Digits.{TwoDigits, decimal, hexDigit, hex8};
+ghost use Rattle.report_text.specs.Texts.{textRoom, noText, added};
+
+// How many bytes a text has room for.
+pub const ROOM: usize = 1024;
 
 // What became of a text.
 pub enum Report {
@@ -18,23 +21,23 @@ pub enum Report {
 
 // A text that is being made.
 pub struct Text {
-    pub bytes: [u8; 1024],
+    pub bytes: [u8; ROOM],
     // how many of them count
     pub len: usize,
 }
 
 pub fn empty() -> Text
-    ensures { λ r. ⌜ (textOf r ≡ []) × (r .len ≡ 0) ⌝ }
+    ensures { λ r. ⌜ r ≡ noText ⌝ }
 {
     Text {
-        bytes: [0; 1024],
+        bytes: [0; ROOM],
         len: 0,
     }
 }
 
 pub fn byte(t: Text, b: u8) -> Text
-    requires { ⌜ t .len < 1024 ⌝ }
-    ensures { λ r. ⌜ Added t r (b ∷ []) 1 ⌝ }
+    requires { ⌜ t .len < textRoom ⌝ }
+    ensures { λ r. ⌜ r ≡ added t (b ∷ []) ⌝ }
 {
     let at = t.len;
     let mut bytes = t.bytes;
@@ -43,8 +46,8 @@ pub fn byte(t: Text, b: u8) -> Text
 }
 
 pub fn word(t: Text, s: &[u8]) -> Text
-    requires { ⌜ t .len + length (now s) ≤ 1024 ⌝ }
-    ensures { λ r. ⌜ Added t r (now (s .entry)) (length (now (s .entry))) ⌝ }
+    requires { ⌜ t .len + length (now s) ≤ textRoom ⌝ }
+    ensures { λ r. ⌜ r ≡ added t (now (s .entry)) ⌝ }
 {
     let mut r = t;
     let mut i: usize = 0;
@@ -57,13 +60,13 @@ pub fn word(t: Text, s: &[u8]) -> Text
 
 // A number below 100, without padding.
 pub fn decimal(t: Text, n: u32) -> Text
-    requires { ⌜ (n < 100) × (t .len + 2 ≤ 1024) ⌝ }
-    ensures { λ r. ⌜ Added t r (decimal n) 2 ⌝ }
+    requires { ⌜ TwoDigits n × (t .len + 2 ≤ textRoom) ⌝ }
+    ensures { λ r. ⌜ r ≡ added t (decimal n) ⌝ }
 {
     if n < 10 {
-        byte(t, 48 + n as u8)
+        byte(t, b'0' + n as u8)
     } else {
-        byte(byte(t, 48 + (n / 10) as u8), 48 + (n % 10) as u8)
+        byte(byte(t, b'0' + (n / 10) as u8), b'0' + (n % 10) as u8)
     }
 }
 
@@ -71,13 +74,17 @@ fn hex_digit(d: u32) -> u8
     requires { ⌜ d < 16 ⌝ }
     ensures { λ r. ⌜ r ≡ hexDigit d ⌝ }
 {
-    if d < 10 { 48 + d as u8 } else { 55 + d as u8 }
+    if d < 10 {
+        b'0' + d as u8
+    } else {
+        b'A' + (d - 10) as u8
+    }
 }
 
 // Eight upper-case hex digits.
 pub fn hex8(t: Text, n: u32) -> Text
-    requires { ⌜ t .len + 8 ≤ 1024 ⌝ }
-    ensures { λ r. ⌜ Added t r (hex8 n) 8 ⌝ }
+    requires { ⌜ t .len + 8 ≤ textRoom ⌝ }
+    ensures { λ r. ⌜ r ≡ added t (hex8 n) ⌝ }
 {
     let mut r = t;
     let mut i: u32 = 0;

@@ -5,7 +5,7 @@ use native.Mathlib.Omega.{arith}
 use lib.ListN.{length}
 use lib.Seq.{length-take-le}
 use borrow.Author.Needs.{needs}
-use Rattle.report_input.specs.Input.{add-still, add-within, add-less}
+use Rattle.report_input.specs.InputLaws.{add-still, add-within, add-less}
 use Rattle.catalogue.proofs.read.Statement.{statement}
 use Rattle.catalogue.proofs.read.Tie as tie
 

@@ -1,6 +1,6 @@
 -- `catalogue::write` is safe: a text that was given lies within the buffer.
 use borrow.Author.Needs.{needs}
-use Rattle.report_text.specs.Given.{given-inside, given-cut}
+use Rattle.report_text.specs.GivenLaws.{given-inside, given-cut}
 use Rattle.catalogue.proofs.write.Statement.{statement}
 use Rattle.catalogue.proofs.write.Tie as tie
 

@@ -5,7 +5,7 @@ use native.Mathlib.Omega.{arith}
 use lib.ListN.{length}
 use borrow.Author.Needs.{needs}
 use Rattle.bytes_copy.specs.Paste.{putAt}
-use Rattle.report_input.specs.Input.{adding}
+use Rattle.report_input.specs.InputLaws.{adding}
 use Rattle.report_input.proofs.add.Statement.{statement}
 use Rattle.report_input.proofs.add.Tie as tie
 

@@ -1,14 +1,18 @@
 -- `report_text::word` meets its contract. The loop's invariant: the bytes passed are added.
-use Prim.Native.Nat.{_≤_, _-_}
+use mathlib.Core.Path.{_≡_}
+use mathlib.Core.List.{[], _∷_}
+use Prim.Native.Nat.{_+_, _≤_, _-_}
 use lib.ListN.{length, take}
+use lib.Seq.{take-all}
 use native.Mathlib.Omega.{arith}
-use Rattle.report_text.specs.Lists.{take-more}
-use Rattle.report_text.specs.Texts.{Added, added-none, added-both, added-all}
+use Rattle.report_text.specs.Texts.{added}
+use Rattle.report_text.specs.ListLaws.{take-more}
+use Rattle.report_text.specs.TextLaws.{added-none, added-more, added-long}
 use Rattle.report_text.proofs.word.Statement.{statement}
 use Rattle.report_text.proofs.word.Tie as tie
 
 abbrev Inv-loop : tie.InvT-loop
-Inv-loop s r₀ i₀ r i = (i ≤ length s) × Added r₀ r (take i s) i
+Inv-loop s r₀ i₀ r i = (r ≡ added r₀ (take i s)) × (r .len ≡ r₀ .len + i) × (i ≤ length s)
 
 abbrev μ-loop : tie.MeasureT-loop
 μ-loop s r₀ i₀ r i = length s - i
@@ -19,10 +23,12 @@ word-spec =
     (tie.spec
     Inv-loop
     μ-loop
-    (λ c. (omega arith, added-none _ _))
+    (λ c. (added-none _, omega arith, omega arith))
     (λ c. omega arith)
     (λ c κs. omega arith)
     (λ c. omega arith)
     (λ c. omega arith)
-    (λ c. (omega arith, added-both _ _ _ _ _ _ _ _ _ (c .byte .ensures) (c .before .before .before .loop .inv .1) (take-more _ _ (c .before .before .loop-test .taken)) (omega arith)))
-    (λ c. added-all _ _ _ _ (c .before .loop .inv .1) (c .before .loop .inv .0) (c .loop-test .left)))
+    (λ c.
+    let l = c .before .before .before .loop .inv in
+    (rw (take-more _ _ (c .before .before .loop-test .taken)) (added-more _ _ _ _ _ (l .0) (c .byte .ensures)), omega (arith, added-long _ _ _ (c .byte .ensures)), omega arith))
+    (λ c. rw (take-all _ _ (c .loop-test .left)) at (c .before .loop .inv .0)))
