@@ -4,19 +4,17 @@
 --   lengthOk            N from 1 to 32, and no other length
 --   isFF, filled        byte i + k is FFh; the n bytes from i on are
 --   unused              a block is unused if all its bytes are FFh
---   all-ff              the sum that tells whether bytes are all FFh, as `search` takes it
 --   unused-no           the first byte tells that a block isn't unused
 --   filled-local        bytes that are the same are filled alike
 --   length-few, length-parts    what a right length says
-use Prim.Native.Nat.{ℕ, suc, _+_, _*_, _%_, _/_, _<_, _≤_}
-use mathlib.Core.Path.{_≡_, refl, sym, _∙_}
+use Prim.Native.Nat.{ℕ, _+_, _*_, _%_, _/_, _≤_}
+use mathlib.Core.Path.{_≡_, sym, _∙_}
 use mathlib.Core.Bool.{Bool, true, false, _&&_, and-false}
 use mathlib.Core.List.{List}
 use native.Mathlib.Omega.{arith}
-use native.Mathlib.Numerals.{add-one}
 use lib.ListN.{length, getD, drop}
 use lib.Dec.{leb, eqb}
-use borrow.Author.Tests.{eq-eqb, ne-eqb, eqb-true, eqb-false, leb-true}
+use borrow.Author.Tests.{eqb-true, leb-true}
 use Rattle.laws.specs.Bools.{and-parts}
 use Rattle.laws.specs.Below.{allBelow, all-stop, all-cong}
 use Rattle.laws.specs.Same.{Same}
@@ -39,26 +37,6 @@ filled s i n = allBelow n (isFF s i)
 -- of the part from the block on
 unfoldable pub unused : List ℕ → Bool
 unused s = leb 2048 (length s) && filled s 0 2048
-
--- n bytes are FFh exactly if their sum is 255 n: a loop's start, its turn, where x is the byte read, and its end
-pub sum-none : (s : List ℕ) (i : ℕ) → eqb 0 (255 * 0) ≡ allBelow 0 (isFF s i)
-unfolding allBelow
-sum-none s i = refl
-
-pub sum-more : (s : List ℕ) (i k sum x : ℕ) → sum ≤ 255 * k → eqb sum (255 * k) ≡ allBelow k (isFF s i) → x ≡ getD s (i + k) 0 → x < 256 → eqb (sum + x) (255 * (k + 1)) ≡ allBelow (k + 1) (isFF s i)
-unfolding allBelow isFF
-sum-more s i k sum x l e q b = rw (add-one k, ← e, ← q) (go (eqb sum (255 * k)) refl (eqb x 255) refl)
-  where
-    go : (t : Bool) → eqb sum (255 * k) ≡ t → (u : Bool) → eqb x 255 ≡ u → eqb (sum + x) (255 * suc k) ≡ t && u
-    go true p true q = eq-eqb (sum + x) (255 * suc k) (let f = eqb-true sum (255 * k) p in let g = eqb-true x 255 q in omega arith)
-    go true p false q = ne-eqb (sum + x) (255 * suc k) (λ h. eqb-false x 255 q (let f = eqb-true sum (255 * k) p in omega arith))
-    go false p u q = ne-eqb (sum + x) (255 * suc k) (λ h. eqb-false sum (255 * k) p (omega arith))
-
-pub sum-end : (s : List ℕ) (i k n sum : ℕ) → k ≤ n → n ≤ k → eqb sum (255 * k) ≡ allBelow k (isFF s i) → eqb sum (255 * n) ≡ filled s i n
-unfolding filled
-sum-end s i k n sum l m e = let q : k ≡ n = omega arith in rw q at e
-
-pub ruleset all-ff = (sum-none, sum-more, sum-end)
 
 -- the first byte tells
 pub unused-no : (s : List ℕ) (r : Bool) → r ≡ isFF s 0 0 → r ≡ false → false ≡ unused s

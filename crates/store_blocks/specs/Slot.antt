@@ -4,16 +4,20 @@
 --   slotOf       unused; or a valid update must begin there, fit, and occupy ceiling(T / 2,048) blocks; anything else is bad
 --   fitting      the cases of `fits`, as `search` takes them
 --   slotting     the cases of `slotOf`, as `search` takes them
-use Prim.Native.Nat.{ℕ, _*_, _-_, _<_, _≤_}
-use mathlib.Core.Path.{_≡_}
+--   good-dwords  a good update is whole dwords
+use Prim.Native.Nat.{ℕ, _*_, _-_, _%_, _<_, _≤_}
+use mathlib.Core.Path.{_≡_, sym, _∙_}
 use mathlib.Core.Bool.{Bool, false, _&&_}
 use mathlib.Core.List.{List}
+use native.Mathlib.Omega.{arith}
 use lib.ListN.{length}
 use lib.Dec.{leb}
 use borrow.Author.Tests.{le-leb, lt-leb}
 use Rattle.laws.specs.Unless.{unless, checks}
 use Rattle.update_sizes.specs.Sizes.{blocksOf}
+use Rattle.update_header.specs.Inside.{inside}
 use Rattle.update_verdict.specs.Verdict.{verdict}
+use Rattle.update_verdict.specs.VerdictLaws.{judged}
 use Rattle.update_verdict.specs.declared.Verdict.{Verdict}
 use Rattle.update_verdict.specs.declared.Verdict.the-variants.{Good, BadHeader, BadSum}
 use Rattle.store_blocks.specs.Blocks.{filled, unused}
@@ -58,3 +62,10 @@ module _ (s : List ℕ) (r v : Verdict) (e : r ≡ v) where
   slot-sum h = rw (← e, h)
 
 pub ruleset slotting = (checks, slot-good, slot-header, slot-sum)
+
+-- a good update is whole dwords; v is what a call answered
+pub good-dwords : (s : List ℕ) (v : Verdict) (t d n k : ℕ) → v ≡ verdict s → v ≡ Good t d n k → t % 4 ≡ 0
+good-dwords s v t d n k e h =
+    let g = judged s t d n k (sym e ∙ h) in
+    let z = inside s (g .sizes) .sized in
+    omega (arith, g .total, z .dwords, z .layout)

@@ -2,7 +2,7 @@
 pub mod slot;
 
 ghost use mathlib.Core.Path.{_≡_};
-ghost use Prim.Native.Nat.{_+_, _≤_, _<_};
+ghost use Prim.Native.Nat.{_+_, _%_, _≤_, _<_};
 ghost use lib.ListN.{length};
 ghost use Rattle.store_blocks.specs.Blocks.{isFF, filled, unused, fromBlock, lengthOk};
 
@@ -13,18 +13,23 @@ fn is_ff(s: &[u8], i: usize, k: usize) -> bool
     s[i + k] == 255
 }
 
-// Are the `n` bytes from `i` on FFh? They are exactly if they sum to 255 n, and a sum is quicker than a test of each.
+// Four bytes of FFh.
+const ALL_FF: u32 = 0xFFFF_FFFF;
+
+// Are the `n` bytes from `i` on FFh, whole dwords? They are exactly if the `and` of the dwords is FFFFFFFFh, and that is quicker than a
+// test of each.
 pub fn filled(s: &[u8], i: usize, n: usize) -> bool
-    requires { ⌜ (i + n ≤ length (now s)) × (n ≤ 2048) ⌝ }
+    requires { ⌜ (i + n ≤ length (now s)) × (n ≤ 2048) × (n % 4 ≡ 0) ⌝ }
     ensures { λ r. ⌜ r ≡ filled (now (s .entry)) i n ⌝ }
 {
-    let mut sum: u32 = 0;
-    let mut k: usize = 0;
-    while k < n {
-        sum += bytes_dwords::wide(s[i + k]);
+    let dwords = (n / 4) as u32;
+    let mut all: u32 = ALL_FF;
+    let mut k: u32 = 0;
+    while k < dwords {
+        all = all & bytes_dwords::dword_inside(s, i + 4 * k as usize);
         k += 1;
     }
-    sum as usize == 255 * n
+    all == ALL_FF
 }
 
 // Is the first block of the part unused? The first byte tells for all but an unused one.
