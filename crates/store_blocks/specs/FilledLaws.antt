@@ -1,38 +1,24 @@
--- Bytes are FFh exactly if the `and` of their dwords is FFFFFFFFh.
---   and-none, and-more, and-end     a loop that takes it: its start, its turn, its end
+-- Bytes that are FFh.
+--   and-none, and-more, and-end     they are exactly if the `and` of their dwords is FFFFFFFFh: a loop's start, its turn, its end
+--   unused-no                       the first byte tells that a block isn't unused
+--   filled-local                    bytes that are the same are filled alike
 use Prim.Native.Nat.{ℕ, _+_, _*_, _/_, _%_, _<_, _≤_}
 use mathlib.Core.Path.{_≡_, sym, _∙_}
-use mathlib.Core.Bool.{true}
+use mathlib.Core.Bool.{Bool, true, false, and-false}
 use mathlib.Core.List.{List}
 use native.Mathlib.Omega.{arith}
 use lib.Bits.{bitAnd, and-le-l, and-le-r, and-self}
-use lib.ListN.{getD}
-use lib.Dec.{eqb}
+use lib.ListN.{length, getD}
+use lib.Dec.{leb, eqb}
 use borrow.Author.Tests.{eq-eqb, eqb-true}
 use Rattle.laws.specs.Bools.{bool-same}
-use Rattle.laws.specs.Below.{allBelow, all-none, all-more, all-at, all-true}
+use Rattle.laws.specs.Below.{allBelow, all-none, all-more, all-at, all-true, all-stop, all-cong}
+use Rattle.laws.specs.Same.{Same}
 use Rattle.bytes_dwords.specs.Dword.{dword}
-use Rattle.store_blocks.specs.Blocks.{isFF, filled}
+use Rattle.bytes_dwords.specs.DwordLaws.{dword-most, dword-bytes, dword-made}
+use Rattle.store_blocks.specs.Blocks.{isFF, filled, unused}
 
--- a dword is at most FFFFFFFFh, and it is that exactly if its four bytes are FFh
-module _ (s : List ℕ) (bytes : (j : ℕ) → getD s j 0 < 256) (i : ℕ) where
-  dword-most : dword s i ≤ 4294967295
-  unfolding dword
-  dword-most = omega (arith, bytes i, bytes (i + 1), bytes (i + 2), bytes (i + 3))
-
-  dword-bytes : dword s i ≡ 4294967295 → (getD s i 0 ≡ 255) × (getD s (i + 1) 0 ≡ 255) × (getD s (i + 2) 0 ≡ 255) × (getD s (i + 3) 0 ≡ 255)
-  unfolding dword
-  dword-bytes e =
-      let a = bytes i in
-      let b = bytes (i + 1) in
-      let c = bytes (i + 2) in
-      let d = bytes (i + 3) in
-      (omega arith, omega arith, omega arith, omega arith)
-
-  dword-made : getD s i 0 ≡ 255 → getD s (i + 1) 0 ≡ 255 → getD s (i + 2) 0 ≡ 255 → getD s (i + 3) 0 ≡ 255 → dword s i ≡ 4294967295
-  unfolding dword
-  dword-made a b c d = omega arith
-
+-- byte m
 module _ (s : List ℕ) (i j m : ℕ) (e : m ≡ i + j) where
   byte-ff : getD s m 0 ≡ 255 → isFF s i j ≡ true
   unfolding isFF
@@ -42,42 +28,64 @@ module _ (s : List ℕ) (i j m : ℕ) (e : m ≡ i + j) where
   unfolding isFF
   ff-byte h = rw e (eqb-true (getD s (i + j) 0) 255 h)
 
--- bytes are FFh exactly if the `and` of their dwords is FFFFFFFFh: a loop's start, its turn, where x is the dword read, and its end
+-- four more bytes, and the dword that they are
+module _ (s : List ℕ) (bytes : (j : ℕ) → getD s j 0 < 256) (i k : ℕ) where
+  dword-more : allBelow (4 * k) (isFF s i) ≡ true → dword s (i + 4 * k) ≡ 4294967295 → allBelow (4 * (k + 1)) (isFF s i) ≡ true
+  dword-more h e =
+      let w = dword-bytes s bytes (i + 4 * k) e in
+      let a = all-more (isFF s i) (4 * k) h (byte-ff s i (4 * k) (i + 4 * k) (omega arith) (w .0)) in
+      let b = all-more (isFF s i) (4 * k + 1) a (byte-ff s i (4 * k + 1) (i + 4 * k + 1) (omega arith) (w .1)) in
+      let c = all-more (isFF s i) (4 * k + 1 + 1) b (byte-ff s i (4 * k + 1 + 1) (i + 4 * k + 2) (omega arith) (w .2)) in
+      let d = all-more (isFF s i) (4 * k + 1 + 1 + 1) c (byte-ff s i (4 * k + 1 + 1 + 1) (i + 4 * k + 3) (omega arith) (w .3)) in
+      let q : 4 * (k + 1) ≡ 4 * k + 1 + 1 + 1 + 1 = omega arith in
+      rw q d
+
+  module _ (h : allBelow (4 * (k + 1)) (isFF s i) ≡ true) where
+    before-ff : allBelow (4 * k) (isFF s i) ≡ true
+    before-ff = all-true (isFF s i) (4 * k) (λ j l. all-at (isFF s i) (4 * (k + 1)) j h (omega arith))
+
+    byte-of : (j m : ℕ) → m ≡ i + j → j < 4 * (k + 1) → getD s m 0 ≡ 255
+    byte-of j m e l = ff-byte s i j m e (all-at (isFF s i) (4 * (k + 1)) j h l)
+
+    dword-ff : dword s (i + 4 * k) ≡ 4294967295
+    dword-ff =
+        dword-made s bytes (i + 4 * k) (byte-of (4 * k) (i + 4 * k) (omega arith) (omega arith))
+        (byte-of (4 * k + 1) (i + 4 * k + 1) (omega arith) (omega arith))
+        (byte-of (4 * k + 2) (i + 4 * k + 2) (omega arith) (omega arith))
+        (byte-of (4 * k + 3) (i + 4 * k + 3) (omega arith) (omega arith))
+
+-- a loop that takes the `and` of the dwords from i on: its start, its turn, where x is the dword read, and its end
 module _ (s : List ℕ) (i : ℕ) where
   pub and-none : eqb 4294967295 4294967295 ≡ allBelow (4 * 0) (isFF s i)
   and-none = sym (all-none (isFF s i))
 
-  pub and-more : ((j : ℕ) → getD s j 0 < 256) → (k all x : ℕ) → all ≤ 4294967295 → eqb all 4294967295 ≡ allBelow (4 * k) (isFF s i) → x ≡ dword s (i + 4 * k)
+  pub and-more : ((j : ℕ) → getD s j 0 < 256) → (k all x : ℕ) → all ≤ 4294967295
+      → eqb all 4294967295 ≡ allBelow (4 * k) (isFF s i) → x ≡ dword s (i + 4 * k)
       → eqb (bitAnd all x) 4294967295 ≡ allBelow (4 * (k + 1)) (isFF s i)
-  and-more bytes k all x l e q = bool-same (eqb (bitAnd all x) 4294967295) (allBelow (4 * (k + 1)) (isFF s i)) forth back
+  and-more bytes k all x l e q = bool-same _ _ forth back
     where
       forth : eqb (bitAnd all x) 4294967295 ≡ true → allBelow (4 * (k + 1)) (isFF s i) ≡ true
       forth h =
-          let r = eqb-true (bitAnd all x) 4294967295 h in
-          let a : all ≡ 4294967295 = omega (arith, and-le-l all x) in
-          let w = dword-bytes s bytes (i + 4 * k) (omega (arith, and-le-r all x, dword-most s bytes (i + 4 * k))) in
-          let none = sym e ∙ eq-eqb all 4294967295 a in
-          let one = all-more (isFF s i) (4 * k) none (byte-ff s i (4 * k) (i + 4 * k) (omega arith) (w .0)) in
-          let two = all-more (isFF s i) (4 * k + 1) one (byte-ff s i (4 * k + 1) (i + 4 * k + 1) (omega arith) (w .1)) in
-          let three = all-more (isFF s i) (4 * k + 1 + 1) two (byte-ff s i (4 * k + 1 + 1) (i + 4 * k + 2) (omega arith) (w .2)) in
-          let four = all-more (isFF s i) (4 * k + 1 + 1 + 1) three (byte-ff s i (4 * k + 1 + 1 + 1) (i + 4 * k + 3) (omega arith) (w .3)) in
-          let m : 4 * (k + 1) ≡ 4 * k + 1 + 1 + 1 + 1 = omega arith in
-          rw m four
-
-      byte : allBelow (4 * (k + 1)) (isFF s i) ≡ true → (j m : ℕ) → m ≡ i + j → j < 4 * (k + 1) → getD s m 0 ≡ 255
-      byte h j m p l = ff-byte s i j m p (all-at (isFF s i) (4 * (k + 1)) j h l)
+          let f = eqb-true (bitAnd all x) 4294967295 h in
+          let g : all ≡ 4294967295 = omega (arith, and-le-l all x) in
+          dword-more s bytes i k (sym e ∙ eq-eqb all 4294967295 g) (omega (arith, and-le-r all x, dword-most s bytes (i + 4 * k)))
 
       back : allBelow (4 * (k + 1)) (isFF s i) ≡ true → eqb (bitAnd all x) 4294967295 ≡ true
       back h =
-          let a = eqb-true all 4294967295 (e ∙ all-true (isFF s i) (4 * k) (λ j m. all-at (isFF s i) (4 * (k + 1)) j h (omega arith))) in
-          let w =
-          dword-made s bytes (i + 4 * k) (byte h (4 * k) (i + 4 * k) (omega arith) (omega arith))
-          (byte h (4 * k + 1) (i + 4 * k + 1) (omega arith) (omega arith))
-          (byte h (4 * k + 2) (i + 4 * k + 2) (omega arith) (omega arith))
-          (byte h (4 * k + 3) (i + 4 * k + 3) (omega arith) (omega arith)) in
-          let same : x ≡ all = omega arith in
-          eq-eqb (bitAnd all x) 4294967295 (rw same (and-self all ∙ a))
+          let f = eqb-true all 4294967295 (e ∙ before-ff s bytes i k h) in
+          let g : x ≡ all = omega (arith, dword-ff s bytes i k h) in
+          eq-eqb (bitAnd all x) 4294967295 (rw g (and-self all ∙ f))
 
-  pub and-end : (k n all : ℕ) → k ≤ n / 4 → n / 4 ≤ k → n % 4 ≡ 0 → eqb all 4294967295 ≡ allBelow (4 * k) (isFF s i) → eqb all 4294967295 ≡ filled s i n
+  pub and-end : (k n all : ℕ) → k ≤ n / 4 → n / 4 ≤ k → n % 4 ≡ 0
+      → eqb all 4294967295 ≡ allBelow (4 * k) (isFF s i) → eqb all 4294967295 ≡ filled s i n
   unfolding filled
   and-end k n all l m z e = let q : 4 * k ≡ n = omega arith in rw q at e
+
+-- the first byte tells
+pub unused-no : (s : List ℕ) (r : Bool) → r ≡ isFF s 0 0 → r ≡ false → false ≡ unused s
+unfolding unused filled
+unused-no s r e h = rw (all-stop (isFF s 0) 2048 0 (omega arith) (sym e ∙ h)) (sym (and-false (leb 2048 (length s))))
+
+pub filled-local : (s r : List ℕ) (m i n : ℕ) → Same s r m → i + n ≤ m → filled s i n ≡ filled r i n
+unfolding filled isFF
+filled-local s r m i n h l = all-cong (isFF s i) (isFF r i) n (λ k j. rw (h (i + k) (omega arith)))

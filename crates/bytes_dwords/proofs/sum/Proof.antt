@@ -2,7 +2,8 @@
 use mathlib.Core.Path.{_≡_}
 use Prim.Native.Nat.{_≤_, _<_, _-_, _^_}
 use native.Mathlib.Omega.{arith}
-use Rattle.bytes_dwords.specs.Sum.{dwordSum, summed, adding}
+use Rattle.bytes_dwords.specs.Sum.{dwordSum}
+use Rattle.bytes_dwords.specs.DwordSumLaws.{summed, adding}
 use Rattle.bytes_dwords.proofs.sum.Statement.{statement}
 use Rattle.bytes_dwords.proofs.sum.Tie as tie
 
