@@ -5,6 +5,7 @@ ghost use Rattle.call_reads.specs.Read.{readBlocks, readKind, readAnswer
 use call_answers::answer;
 use call_answers::answer::Answer;
 use call_answers::answer::Read;
+use store_blocks::BLOCK;
 use store_directory::kind;
 use store_directory::kind::Kind;
 
@@ -12,7 +13,7 @@ use store_directory::kind::Kind;
 fn read_blocks(k: u32, lent: usize) -> Answer
     ensures { λ r. ⌜ r ≡ readBlocks k lent ⌝ }
 {
-    if lent < k as usize * 2048 {
+    if lent < k as usize * BLOCK {
         answer::refuse(0x92, 3)
     } else {
         Answer::Read(Read { blocks: k })
@@ -36,7 +37,7 @@ fn read_answer(store: &[u8], block: u32, lent: usize) -> Answer
     let d = store_directory::read_store(store);
     let ok = d.ok;
     if ok {
-        if (block as usize) < store.len() / 2048 {
+        if (block as usize) < store.len() / BLOCK {
             read_kind(kind::block_kind(d, block), lent)
         } else {
             answer::refuse(0x99, 0)
@@ -70,7 +71,7 @@ pub fn read(store: &[u8], block: u32, destination: &mut [u8]) -> Answer
         destination,
         0,
         store_blocks::from_block(store, block),
-        k as usize * 2048,
+        k as usize * BLOCK,
     );
     answer
 }

@@ -42,7 +42,7 @@ fn text_of(s: &[u8]) -> Text
     let d = store_directory::read_store(s);
     let ok = d.ok;
     if ok {
-        listing(s, d, (s.len() / 2048) as u32)
+        listing(s, d, (s.len() / store_blocks::BLOCK) as u32)
     } else {
         report_text::word(report_text::empty(), b"bad store\n")
     }

@@ -8,7 +8,7 @@ use mathlib.Core.List.{List}
 use lib.ListN.{length}
 use lib.Dec.{leb}
 use Rattle.laws.specs.Unless.{unless}
-use Rattle.update_sizes.specs.Sizes.{blocksOf}
+use Rattle.update_sizes.specs.Sizes.{block, blocksOf}
 use Rattle.update_verdict.specs.Verdict.{verdict}
 use Rattle.update_verdict.specs.declared.Verdict.{Verdict}
 use Rattle.update_verdict.specs.declared.Verdict.the-variants.{Good, BadHeader, BadSum}
@@ -17,7 +17,7 @@ use Rattle.store_blocks.specs.declared.slot.Slot.{Slot}
 use Rattle.store_blocks.specs.declared.slot.Slot.the-variants.{Unused, Update, Bad}
 
 unfoldable pub fits : List ℕ → ℕ → Bool
-fits s t = leb (blocksOf t * 2048) (length s) && filled s t (blocksOf t * 2048 - t)
+fits s t = leb (blocksOf t * block) (length s) && filled s t (blocksOf t * block - t)
 
 unfoldable pub updateSlot : List ℕ → Verdict → Slot
 updateSlot s (Good t d n k) = unless (fits s t) Bad (Update k)

@@ -3,6 +3,7 @@ ghost use mathlib.Core.Path.{_≡_};
 ghost use Prim.Native.Nat.{_%_};
 ghost use Rattle.update_sizes.specs.Sizes.{blocksOf};
 ghost use Rattle.store_blocks.specs.Slot.{fits, slotOf};
+use crate::BLOCK;
 use crate::filled;
 use crate::unused;
 use update_verdict::Verdict;
@@ -21,7 +22,7 @@ fn fits(s: &[u8], t: u32, k: u32) -> bool
     ensures { λ r. ⌜ r ≡ fits (now (s .entry)) t ⌝ }
 {
     let size = t as usize;
-    let end = k as usize * 2048;
+    let end = k as usize * BLOCK;
     if end <= s.len() {
         filled(s, size, end - size)
     } else {

@@ -34,7 +34,7 @@ pub fn read_store(s: &[u8]) -> Directory
     ensures { λ r. ⌜ r ≡ directory (now (s .entry)) ⌝ }
 {
     if store_blocks::length_ok(s.len()) {
-        let d = scan::scan(s, s.len() / 2048);
+        let d = scan::scan(s, s.len() / store_blocks::BLOCK);
         let ok = d.ok;
         if ok {
             let starts = d.starts;

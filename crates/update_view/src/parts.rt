@@ -3,6 +3,7 @@ ghost use mathlib.Core.Path.{_≡_};
 ghost use lib.ListN.{length};
 ghost use Rattle.update_view.specs.View.{viewed, isUpdate, dataPart};
 use update_header::fields;
+use update_sizes::HEADER;
 use update_verdict::Verdict;
 
 // The numbers that a view gives, by value.
@@ -52,15 +53,15 @@ pub fn data_part(s: &[u8]) -> &[u8]
     ensures { λ r. ⌜ now r ≡ dataPart (now (s .entry)) ⌝ }
 {
     let n = fields::data_size(s) as usize;
-    if s.len() < 48 {
+    if s.len() < HEADER {
         return &s[..0];
     }
-    let rest = s.len() - 48;
+    let rest = s.len() - HEADER;
     if n <= rest {
-        let end = 48 + n;
-        &s[48..end]
+        let end = HEADER + n;
+        &s[HEADER..end]
     } else {
-        &s[48..]
+        &s[HEADER..]
     }
 }
 

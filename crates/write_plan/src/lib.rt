@@ -56,6 +56,6 @@ pub fn plan_marked<'a>(
     if write_marks::torn(shares, keeps, count) {
         return answer::refuse(0x93, 4);
     }
-    let n = (store.len() / 2048) as u32;
+    let n = (store.len() / store_blocks::BLOCK) as u32;
     place(starts, sizes, shares, keeps, count, n, k)
 }
