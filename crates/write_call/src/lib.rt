@@ -12,6 +12,7 @@ ghost use Rattle.write_call.specs.Demand.{Passes, Demand3};
 ghost use Rattle.write_call.specs.Storing.{Storing, Storable};
 use call_answers::answer;
 use call_answers::answer::Answer;
+use store_blocks::MOST_BLOCKS;
 use store_directory::Directory;
 use update_header::fields;
 use update_verdict::Verdict;
@@ -21,9 +22,9 @@ use write_plan::marks;
 // Empties all sharing updates, wherever they lie, and all that the run touches, and puts the candidate at the start.
 fn store_candidate<'a>(
     store: &mut [u8],
-    starts: &'a [u8; 32],
-    sizes: &'a [u8; 32],
-    shares: &'a [bool; 32],
+    starts: &'a [u8; MOST_BLOCKS],
+    sizes: &'a [u8; MOST_BLOCKS],
+    shares: &'a [bool; MOST_BLOCKS],
     count: usize,
     start: u32,
     candidate: &[u8],
@@ -49,9 +50,9 @@ fn store_candidate<'a>(
 // Check 9, and the bytes. `planned` is the answer of checks 1 to 8.
 fn finish<'a>(
     store: &mut [u8],
-    starts: &'a [u8; 32],
-    sizes: &'a [u8; 32],
-    shares: &'a [bool; 32],
+    starts: &'a [u8; MOST_BLOCKS],
+    sizes: &'a [u8; MOST_BLOCKS],
+    shares: &'a [bool; MOST_BLOCKS],
     count: usize,
     planned: Answer,
     candidate: &[u8],

@@ -6,6 +6,7 @@ ghost use Rattle.update_sizes.specs.Sizes.{blocksOf};
 ghost use Rattle.write_outcome.specs.OutcomeBytes.{outcomeBytes};
 ghost use Rattle.write_outcome.specs.Cleared.{cleared};
 ghost use Rattle.write_outcome.specs.EmptiedEntries.{marked, Entries, emptyIf};
+use store_blocks::MOST_BLOCKS;
 use update_sizes::BLOCK;
 use update_sizes::BLOCK_ROUNDING;
 
@@ -22,9 +23,9 @@ fn empty_if(gone: bool, store: &mut [u8], start: u8, size: u8)
 // The marked ones of the first `count` entries are emptied.
 fn empty_marked<'a>(
     store: &mut [u8],
-    starts: &'a [u8; 32],
-    sizes: &'a [u8; 32],
-    gone: [bool; 32],
+    starts: &'a [u8; MOST_BLOCKS],
+    sizes: &'a [u8; MOST_BLOCKS],
+    gone: [bool; MOST_BLOCKS],
     count: usize,
 )
     requires { ⌜ Entries (now store) (now starts) (now sizes) count ⌝ }
@@ -41,9 +42,9 @@ fn empty_marked<'a>(
 // behind them to the end of its last block.
 pub fn write_bytes<'a>(
     store: &mut [u8],
-    starts: &'a [u8; 32],
-    sizes: &'a [u8; 32],
-    gone: [bool; 32],
+    starts: &'a [u8; MOST_BLOCKS],
+    sizes: &'a [u8; MOST_BLOCKS],
+    gone: [bool; MOST_BLOCKS],
     count: usize,
     start: u32,
     candidate: &[u8],

@@ -11,14 +11,15 @@ ghost use Rattle.write_plan.specs.Plan.{placed, markedAnswer};
 use call_answers::answer;
 use call_answers::answer::Answer;
 use call_answers::answer::Written;
+use store_blocks::MOST_BLOCKS;
 use write_placement::Choice;
 
 // Check 8: the run that touches the fewest non-sharing updates, lowest start on a tie.
 fn place<'a>(
-    starts: &'a [u8; 32],
-    sizes: &'a [u8; 32],
-    shares: &'a [bool; 32],
-    keeps: &'a [bool; 32],
+    starts: &'a [u8; MOST_BLOCKS],
+    sizes: &'a [u8; MOST_BLOCKS],
+    shares: &'a [bool; MOST_BLOCKS],
+    keeps: &'a [bool; MOST_BLOCKS],
     count: usize,
     n: u32,
     k: u32,
@@ -39,10 +40,10 @@ fn place<'a>(
 // Checks 6 to 8, for a candidate of `k` blocks. The stored updates are lent by their starts, sizes and marks.
 pub fn plan_marked<'a>(
     store: &[u8],
-    starts: &'a [u8; 32],
-    sizes: &'a [u8; 32],
-    shares: &'a [bool; 32],
-    keeps: &'a [bool; 32],
+    starts: &'a [u8; MOST_BLOCKS],
+    sizes: &'a [u8; MOST_BLOCKS],
+    shares: &'a [bool; MOST_BLOCKS],
+    keeps: &'a [bool; MOST_BLOCKS],
     count: usize,
     candidate: &[u8],
     k: u32,
