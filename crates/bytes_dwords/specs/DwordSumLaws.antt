@@ -1,7 +1,7 @@
 -- Laws of the sum of dwords.
---   summed        what a loop has summed, with the dwords that are left
---   adding        a loop that adds one dword a turn, as `search` takes it: its start, its turn, its end
---   sum-append    the sum of two parts, the first of whole dwords
+--   summed                          what a loop has summed, with the dwords that are left
+--   sum-start, sum-turn, sum-end    a loop that adds one dword a turn
+--   sum-append                      the sum of two parts, the first of whole dwords
 use Prim.Native.Nat.{ℕ, zero, suc, _+_, _*_, _/_, _%_, _^_, _<_, _≤_}
 use mathlib.Core.Path.{_≡_, refl}
 use mathlib.Core.List.{List, [], _∷_, _++_}
@@ -55,8 +55,6 @@ module _ (s : List ℕ) where
       let h = length-drop (4 * i) s in
       let k = none (drop (4 * i) s) (omega arith) in
       omega arith
-
-pub ruleset adding = (sum-start, sum-turn, sum-end)
 
 total-append : (n : ℕ) (a b : List ℕ) → length a ≡ 4 * n → total (dwordsOf (a ++ b)) ≡ total (dwordsOf a) + total (dwordsOf b)
 unfolding dwordsOf total
