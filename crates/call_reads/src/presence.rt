@@ -25,7 +25,7 @@ pub fn presence(store: &[u8]) -> Answer
             byte6: b'E',
             byte7: b'P',
             loader_version: 1,
-            blocks: (store.len() / 2048) as u32,
+            blocks: (store.len() / store_blocks::BLOCK) as u32,
         })
     } else {
         answer::refuse(code::READ_FAILURE, code::BAD_STORE)

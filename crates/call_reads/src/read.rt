@@ -6,6 +6,7 @@ use call_answers::answer;
 use call_answers::answer::Answer;
 use call_answers::answer::Read;
 use call_answers::code;
+use store_blocks::BLOCK;
 use store_directory::kind;
 use store_directory::kind::Kind;
 
@@ -21,7 +22,7 @@ pub enum ReadPlan {
 fn read_blocks(k: u32, lent: usize) -> ReadPlan
     ensures { λ r. ⌜ r ≡ readBlocks k lent ⌝ }
 {
-    if lent < k as usize * 2048 {
+    if lent < k as usize * BLOCK {
         ReadPlan::Refuse {
             ah: code::READ_FAILURE,
             al: code::SHORT_DESTINATION,
@@ -51,7 +52,7 @@ fn read_plan(store: &[u8], block: u32, lent: usize) -> ReadPlan
     let d = store_directory::read_store(store);
     let ok = d.ok;
     if ok {
-        if (block as usize) < store.len() / 2048 {
+        if (block as usize) < store.len() / BLOCK {
             read_kind(kind::block_kind(d, block), lent)
         } else {
             ReadPlan::Refuse {
@@ -76,7 +77,7 @@ pub fn read(store: &[u8], block: u32, destination: &mut [u8]) -> Answer
     match plan {
         ReadPlan::Copy { blocks } => {
             let from = store_blocks::from_block(store, block);
-            bytes_copy::put(destination, 0, from, blocks as usize * 2048);
+            bytes_copy::put(destination, 0, from, blocks as usize * BLOCK);
             Answer::Read(Read {
                 ah: code::SUCCESS,
                 al: code::NONE,

@@ -27,7 +27,8 @@ use Rattle.update_verdict.specs.VerdictLocal.{verdict-local}
 use Rattle.update_sharing.specs.SharingLocal.{covers-local, Alike}
 use Rattle.update_verdict.specs.declared.Verdict.{Verdict}
 use Rattle.update_verdict.specs.declared.Verdict.the-variants.{Good, BadHeader, BadSum}
-use Rattle.store_blocks.specs.Blocks.{isFF, filled, unused, fromBlock, filled-local}
+use Rattle.store_blocks.specs.Blocks.{isFF, filled, unused, fromBlock}
+use Rattle.store_blocks.specs.FilledLaws.{filled-local}
 use Rattle.store_blocks.specs.Slot.{fits, updateSlot, slotOf}
 use Rattle.store_directory.specs.Scan.{slotAt, slotSize, isUpdate, isBad, single}
 use Rattle.store_blocks.specs.declared.slot.Slot.{Slot}

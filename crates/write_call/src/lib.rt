@@ -14,6 +14,7 @@ use call_answers::answer;
 use call_answers::answer::Answer;
 use call_answers::answer::Written;
 use call_answers::code;
+use store_blocks::MOST_BLOCKS;
 use store_directory::Directory;
 use update_header::fields;
 use update_verdict::Verdict;
@@ -24,9 +25,9 @@ use write_plan::marks;
 // Empties all sharing updates, wherever they lie, and all that the run touches, and puts the candidate at the start.
 fn store_candidate<'a>(
     store: &mut [u8],
-    starts: &'a [u8; 32],
-    sizes: &'a [u8; 32],
-    shares: &'a [bool; 32],
+    starts: &'a [u8; MOST_BLOCKS],
+    sizes: &'a [u8; MOST_BLOCKS],
+    shares: &'a [bool; MOST_BLOCKS],
     count: usize,
     start: u32,
     candidate: &[u8],
@@ -52,9 +53,9 @@ fn store_candidate<'a>(
 // Check 9, and the bytes.
 fn finish<'a>(
     store: &mut [u8],
-    starts: &'a [u8; 32],
-    sizes: &'a [u8; 32],
-    shares: &'a [bool; 32],
+    starts: &'a [u8; MOST_BLOCKS],
+    sizes: &'a [u8; MOST_BLOCKS],
+    shares: &'a [bool; MOST_BLOCKS],
     count: usize,
     plan: Plan,
     candidate: &[u8],

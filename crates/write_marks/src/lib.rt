@@ -9,23 +9,24 @@ ghost use Rattle.laws.specs.Arrays.{Filled, markAt};
 ghost use Rattle.write_marks.specs.Against.{fills, ruledOut, lost};
 ghost use Rattle.write_marks.specs.Capped.{capped};
 ghost use Rattle.write_marks.specs.StoredMarks.{storedOf, marksOf, bothAt};
+use store_blocks::MOST_BLOCKS;
 
 // The stored updates in the order of their starts: update i < count starts at a block, has a size in blocks, and two marks against the
 // candidate: it covers a processor that the candidate covers; it covers a listed processor that the candidate doesn't.
 pub struct Marked {
-    pub starts: [u8; 32],
-    pub sizes: [u8; 32],
-    pub shares: [bool; 32],
-    pub needed: [bool; 32],
+    pub starts: [u8; MOST_BLOCKS],
+    pub sizes: [u8; MOST_BLOCKS],
+    pub shares: [bool; MOST_BLOCKS],
+    pub needed: [bool; MOST_BLOCKS],
     pub count: usize,
 }
 
 // Does some update rule the start out?
 pub fn ruled_out<'a>(
-    starts: &'a [u8; 32],
-    sizes: &'a [u8; 32],
-    shares: &'a [bool; 32],
-    needed: &'a [bool; 32],
+    starts: &'a [u8; MOST_BLOCKS],
+    sizes: &'a [u8; MOST_BLOCKS],
+    shares: &'a [bool; MOST_BLOCKS],
+    needed: &'a [bool; MOST_BLOCKS],
     count: usize,
     k: u32,
     s: u32,
@@ -45,9 +46,9 @@ pub fn ruled_out<'a>(
 
 // How many updates that do not share does the run touch, up to `limit`? Whether they are needed doesn't matter here.
 pub fn lost<'a>(
-    starts: &'a [u8; 32],
-    sizes: &'a [u8; 32],
-    shares: &'a [bool; 32],
+    starts: &'a [u8; MOST_BLOCKS],
+    sizes: &'a [u8; MOST_BLOCKS],
+    shares: &'a [bool; MOST_BLOCKS],
     count: usize,
     k: u32,
     s: u32,
@@ -79,7 +80,11 @@ fn both(a: bool, b: bool) -> bool
 }
 
 // Has some update both marks? Then it rules every start out.
-pub fn both_marks<'a>(shares: &'a [bool; 32], needed: &'a [bool; 32], count: usize) -> bool
+pub fn both_marks<'a>(
+    shares: &'a [bool; MOST_BLOCKS],
+    needed: &'a [bool; MOST_BLOCKS],
+    count: usize,
+) -> bool
     requires { ⌜ count ≤ 32 ⌝ }
     ensures { λ r. ⌜ r ≡ anyBelow count (bothAt (now (shares .entry)) (now (needed .entry))) ⌝ }
 {
@@ -94,7 +99,7 @@ pub fn both_marks<'a>(shares: &'a [bool; 32], needed: &'a [bool; 32], count: usi
 }
 
 // How many updates share?
-pub fn shared(shares: &[bool; 32], count: usize) -> u32
+pub fn shared(shares: &[bool; MOST_BLOCKS], count: usize) -> u32
     requires { ⌜ count ≤ 32 ⌝ }
     ensures { λ r. ⌜ r ≡ countBelow count (markAt (now (shares .entry))) ⌝ }
 {
@@ -113,17 +118,17 @@ pub fn shared(shares: &[bool; 32], count: usize) -> u32
 // Marks the updates that must be filled with FFh if the candidate goes to `s`: those that are emptied, but for those that the run overwrites
 // whole.
 pub fn to_fill<'a>(
-    starts: &'a [u8; 32],
-    sizes: &'a [u8; 32],
-    shares: &'a [bool; 32],
+    starts: &'a [u8; MOST_BLOCKS],
+    sizes: &'a [u8; MOST_BLOCKS],
+    shares: &'a [bool; MOST_BLOCKS],
     count: usize,
     k: u32,
     s: u32,
-) -> [bool; 32]
+) -> [bool; MOST_BLOCKS]
     requires { ⌜ count ≤ 32 ⌝ }
     ensures { λ r. ⌜ Filled false 32 (fills (storedOf (marksOf (now (starts .entry)) (now (sizes .entry)) (now (shares .entry)) [] count)) k s) count r ⌝ }
 {
-    let mut marks = [false; 32];
+    let mut marks = [false; MOST_BLOCKS];
     let mut i: usize = 0;
     while i < count {
         marks[i] = write_overlap::fills(starts[i], sizes[i], shares[i], k, s);

@@ -21,7 +21,8 @@ use Rattle.update_verdict.specs.Verdict.{verdict}
 use Rattle.update_sharing.specs.Shares.{Shares}
 use Rattle.update_sharing.specs.SharingLocal.{Alike, shares-move, shares-turn}
 use Rattle.update_verdict.specs.declared.Verdict.the-variants.{Good}
-use Rattle.store_blocks.specs.Blocks.{isFF, filled, fromBlock, blockCount, filled-local}
+use Rattle.store_blocks.specs.Blocks.{isFF, filled, fromBlock, blockCount}
+use Rattle.store_blocks.specs.FilledLaws.{filled-local}
 use Rattle.store_directory.specs.Scan.{single, slotAt, sizeAt, first, storeOk}
 use Rattle.store_directory.specs.Valid.{Owned, Layout, Valid}
 use Rattle.store_directory.specs.SlotLaws.{filled-unused, single-is, unused-filled}

@@ -7,6 +7,7 @@ ghost use Rattle.write_placement.specs.Choose.{choose};
 ghost use Rattle.write_marks.specs.StoredMarks.{storedOf, marksOf};
 ghost use Rattle.write_placement.specs.Choices.{choiceOf, untouched};
 ghost use Rattle.write_placement.specs.Tries.{limitOf, turn};
+use store_blocks::MOST_BLOCKS;
 
 pub enum Choice {
     // the start of the run, and how many updates that do not share it touches
@@ -26,10 +27,10 @@ fn limit(sofar: Choice) -> u32
 
 // The choice so far against a later start: taken only if it touches fewer, and is not ruled out.
 fn tried<'a>(
-    starts: &'a [u8; 32],
-    sizes: &'a [u8; 32],
-    shares: &'a [bool; 32],
-    needed: &'a [bool; 32],
+    starts: &'a [u8; MOST_BLOCKS],
+    sizes: &'a [u8; MOST_BLOCKS],
+    shares: &'a [bool; MOST_BLOCKS],
+    needed: &'a [bool; MOST_BLOCKS],
     count: usize,
     k: u32,
     s: u32,
@@ -63,10 +64,10 @@ fn untouched(c: Choice) -> bool
 
 // The start for a run of `k` of the `n` blocks: the one that loses the fewest updates, the lowest on a tie.
 pub fn choose_run<'a>(
-    starts: &'a [u8; 32],
-    sizes: &'a [u8; 32],
-    shares: &'a [bool; 32],
-    needed: &'a [bool; 32],
+    starts: &'a [u8; MOST_BLOCKS],
+    sizes: &'a [u8; MOST_BLOCKS],
+    shares: &'a [bool; MOST_BLOCKS],
+    needed: &'a [bool; MOST_BLOCKS],
     count: usize,
     n: u32,
     k: u32,

@@ -9,6 +9,7 @@ ghost use Rattle.write_placement.specs.Choose.{choose};
 ghost use Rattle.write_plan.specs.CandidateMarkLaws.{Shared};
 ghost use Rattle.write_plan.specs.Plan.{placed, markedPlan};
 use call_answers::code;
+use store_blocks::MOST_BLOCKS;
 use write_placement::Choice;
 
 // What checks 1 to 8 find.
@@ -21,10 +22,10 @@ pub enum Plan {
 
 // Check 8: the run that touches the fewest non-sharing updates, lowest start on a tie.
 fn place<'a>(
-    starts: &'a [u8; 32],
-    sizes: &'a [u8; 32],
-    shares: &'a [bool; 32],
-    needed: &'a [bool; 32],
+    starts: &'a [u8; MOST_BLOCKS],
+    sizes: &'a [u8; MOST_BLOCKS],
+    shares: &'a [bool; MOST_BLOCKS],
+    needed: &'a [bool; MOST_BLOCKS],
     count: usize,
     n: u32,
     k: u32,
@@ -48,10 +49,10 @@ fn place<'a>(
 // Checks 6 to 8, for a candidate of `k` blocks. The stored updates are lent by their starts, sizes and marks.
 pub fn plan_marked<'a>(
     store: &[u8],
-    starts: &'a [u8; 32],
-    sizes: &'a [u8; 32],
-    shares: &'a [bool; 32],
-    needed: &'a [bool; 32],
+    starts: &'a [u8; MOST_BLOCKS],
+    sizes: &'a [u8; MOST_BLOCKS],
+    shares: &'a [bool; MOST_BLOCKS],
+    needed: &'a [bool; MOST_BLOCKS],
     count: usize,
     candidate: &[u8],
     k: u32,
@@ -71,6 +72,6 @@ pub fn plan_marked<'a>(
             al: code::SHARING_NEEDED,
         };
     }
-    let n = (store.len() / 2048) as u32;
+    let n = (store.len() / store_blocks::BLOCK) as u32;
     place(starts, sizes, shares, needed, count, n, k)
 }

@@ -11,6 +11,7 @@ ghost use Rattle.store_directory.specs.Scan.{directory};
 ghost use Rattle.processor_list.specs.Covered.{Covered};
 ghost use Rattle.write_plan.specs.CandidateMarks.{outdated};
 ghost use Rattle.write_plan.specs.CandidateMarkLaws.{Shared, Marks};
+use store_blocks::MOST_BLOCKS;
 use store_directory::Directory;
 use update_header::fields;
 use write_marks::Marked;
@@ -32,8 +33,8 @@ pub fn mark(
 {
     let data = fields::data_size(candidate);
     let pairs = update_coverage::pair_count(candidate);
-    let mut shared = [false; 32];
-    let mut needed = [false; 32];
+    let mut shared = [false; MOST_BLOCKS];
+    let mut needed = [false; MOST_BLOCKS];
     let mut i: usize = 0;
     while i < d.count {
         let u = store_blocks::from_start(store, d.starts[i]);
@@ -68,8 +69,8 @@ fn outdates(store: &[u8], shares: bool, start: u8, new: u32) -> bool
 // Does some stored update share, with a revision that is equal or greater?
 pub fn outdated<'a>(
     store: &[u8],
-    starts: &'a [u8; 32],
-    shares: &'a [bool; 32],
+    starts: &'a [u8; MOST_BLOCKS],
+    shares: &'a [bool; MOST_BLOCKS],
     count: usize,
     candidate: &[u8],
 ) -> bool
