@@ -10,6 +10,7 @@ use native.Mathlib.Omega.{arith}
 use lib.ListN.{length}
 use lib.Dec.{eqb}
 use borrow.Author.Tests.{eqb-true, eqb-false, eq-eqb, ne-eqb}
+use Rattle.laws.specs.Orders.{impossible}
 use Rattle.call_answers.specs.Codes.{NOT-IMPLEMENTED}
 use Rattle.call_answers.specs.Answers.{ahOf, Coded}
 use Rattle.call_answers.specs.declared.answer.Answer.{Answer}
@@ -95,7 +96,7 @@ module _ (i : CallInputs) where
         done on t state stays = record {
           codes = (refl, refl, refl);
           unimplemented = λ u. absurd (known (omega arith) (λ e. t) u);
-          refused = λ a e. absurd (let z : _≡_ {A = ℕ} 0 1 = cc in omega arith);
+          refused = λ a e. absurd (impossible (cc));
           state = state;
           stays-on = stays;
           wrote = inl refl;

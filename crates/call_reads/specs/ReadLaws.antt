@@ -11,6 +11,7 @@ use native.Mathlib.Omega.{arith}
 use lib.ListN.{length}
 use lib.Dec.{leb, ltb}
 use borrow.Author.Tests.{lt-ltb, le-ltb, leb-true}
+use Rattle.laws.specs.Orders.{impossible}
 use Rattle.laws.specs.Unless.{unless}
 use Rattle.bytes_copy.specs.Paste.{putAt, put-first}
 use Rattle.store_blocks.specs.Blocks.{blockCount, fromBlock}
@@ -67,7 +68,7 @@ module _ (s : List ℕ) (d : Directory) (b m : ℕ) (e : d ≡ directory s) wher
 passed : (t : Bool) (ah al k : ℕ) (rest : ReadPlan) → unless t (Refuse ah al) rest ≡ Copy k → (t ≡ true) × (rest ≡ Copy k)
 unfolding unless
 passed true ah al k rest e = (refl, e)
-passed false ah al k rest e = absurd (let z : _≡_ {A = ℕ} 0 1 = cc in omega arith)
+passed false ah al k rest e = absurd (impossible (cc))
 
 -- k blocks are copied into m bytes
 pub record Copies (s : List ℕ) (b m k : ℕ) : Type 0 where
@@ -95,8 +96,8 @@ module _ (s : List ℕ) (b m k : ℕ) where
       let w = wanted j e in
       let z = slot-inside (fromBlock s b) j q in
       record { fit = w .1; there = rw (w .0) at (z .2); few = rw (w .0) at (z .1) }
-  by-kind true Bad q e = absurd (let z : _≡_ {A = ℕ} 0 1 = cc in omega arith)
-  by-kind false x q e = absurd (let z : _≡_ {A = ℕ} 0 1 = cc in omega arith)
+  by-kind true Bad q e = absurd (impossible (cc))
+  by-kind false x q e = absurd (impossible (cc))
 
   -- p is the plan that a call gave
   pub copies : (p : ReadPlan) → p ≡ readPlan s b m → p ≡ Copy k → Copies s b m k

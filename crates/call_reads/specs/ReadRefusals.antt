@@ -7,10 +7,10 @@ use mathlib.Core.Path.{_≡_, refl}
 use mathlib.Core.Bool.{Bool, true, false, not}
 use mathlib.Core.List.{List}
 use mathlib.Core.Logic.{_⊎_, inl, inr}
-use native.Mathlib.Omega.{arith}
 use lib.ListN.{length}
 use lib.Dec.{eqb, leb, ltb}
 use borrow.Author.Tests.{not-true}
+use Rattle.laws.specs.Orders.{impossible}
 use Rattle.laws.specs.Unless.{unless, unless-all}
 use Rattle.store_blocks.specs.Blocks.{blockCount}
 use Rattle.store_directory.specs.Scan.{storeOk}
@@ -65,7 +65,7 @@ answered-coded (Refuse ah al) c = (not-true _ c, refl)
 module _ (s : List ℕ) (b : ℕ) (d : List ℕ) where
   answered-refused : (p : ReadPlan) (a : RefusedNumbers) → answered p ≡ Refused a → copied s b d p ≡ d
   unfolding answered copied
-  answered-refused (Copy k) a e = absurd (let z : _≡_ {A = ℕ} 0 1 = cc in omega arith)
+  answered-refused (Copy k) a e = absurd (impossible (cc))
   answered-refused (Refuse ah al) a e = refl
 
   answered-kept : (p : ReadPlan) → (copied s b d p ≡ d) ⊎ ((a : ReadNumbers) × (answered p ≡ Read a))

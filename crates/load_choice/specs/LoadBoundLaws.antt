@@ -12,6 +12,7 @@ use lib.ListN.{length, take, drop, length-drop}
 use lib.Seq.{drop-drop}
 use lib.Dec.{leb, ltb}
 use borrow.Author.Tests.{ltb-true}
+use Rattle.laws.specs.Orders.{impossible}
 use Rattle.laws.specs.Bools.{and-parts}
 use Rattle.laws.specs.First.{first-is}
 use Rattle.laws.specs.Unless.{unless}
@@ -31,16 +32,16 @@ use Rattle.load_choice.specs.LoadBounds.{StartBelow32, Choice}
 chosen-at : (s : List ℕ) (a b r : ℕ) (t : Bool) → ltb a (blockCount s) ≡ t → unless t choice.Nothing (choice.Chosen a (revision (fromBlock s a))) ≡ choice.Chosen b r → (a ≡ b) × (a < blockCount s)
 unfolding unless
 chosen-at s a b r true e h = (cc, ltb-true a (blockCount s) e)
-chosen-at s a b r false e h = absurd (let z : _≡_ {A = ℕ} 0 1 = cc in omega arith)
+chosen-at s a b r false e h = absurd (impossible (cc))
 
 pub chosen : (loading : Bool) (s : List ℕ) (x p b r : ℕ) → choice.Chosen b r ≡ loadChoice loading s x p → Choice s b
 unfolding loadChoice found chosenAt unless holder holds
 chosen loading s x p b r e = go (storeOk s) refl (leb p 7) loading e
   where
     go : (t : Bool) → storeOk s ≡ t → (u v : Bool) → choice.Chosen b r ≡ unless t (choice.Refused 0x92 1) (unless u (choice.Refused 0x92 2) (unless v choice.Nothing (found s x p))) → Choice s b
-    go false k u v q = absurd (let z : _≡_ {A = ℕ} 0 1 = cc in omega arith)
-    go true k false v q = absurd (let z : _≡_ {A = ℕ} 0 1 = cc in omega arith)
-    go true k true false q = absurd (let z : _≡_ {A = ℕ} 0 1 = cc in omega arith)
+    go false k u v q = absurd (impossible (cc))
+    go true k false v q = absurd (impossible (cc))
+    go true k true false q = absurd (impossible (cc))
     go true k true true q =
         let y = chosen-at s (holder s x p) b r (ltb (holder s x p) (blockCount s)) refl (sym q) in
         let h = and-parts (first s (holder s x p)) (covers (fromBlock s (holder s x p)) x p) (first-is (blockCount s) (holds s x p) .passes (y .1)) in

@@ -21,7 +21,8 @@ use Rattle.store_blocks.specs.Blocks.{fromBlock, blockCount}
 use Rattle.store_directory.specs.Scan.{first, storeOk, directory}
 use Rattle.store_directory.specs.StoreLaws.{directory-ok, directory-good}
 use Rattle.store_directory.specs.ValidLaws.{store-valid}
-use Rattle.store_directory.specs.DirectoryLaws.{startOf, listing}
+use Rattle.store_directory.specs.DirectoryEntries.{startOf}
+use Rattle.store_directory.specs.DirectoryLaws.{listing}
 use Rattle.store_directory.specs.declared.Directory.{Directory}
 use Rattle.load_choice.specs.Load.{holds, holder, chosenAt, found, loadChoice}
 use Rattle.call_answers.specs.declared.choice.LoadChoice.{LoadChoice}

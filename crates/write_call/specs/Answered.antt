@@ -13,6 +13,7 @@ use mathlib.Core.List.{List}
 use native.Mathlib.Omega.{arith}
 use lib.Dec.{eqb}
 use borrow.Author.Tests.{eqb-true, eq-eqb}
+use Rattle.laws.specs.Orders.{impossible}
 use Rattle.processor_list.specs.Processors.{ProcessorList}
 use Rattle.laws.specs.Below.{anyBelow}
 use Rattle.laws.specs.Count.{countBelow}
@@ -57,8 +58,8 @@ answered-run back new (Run start emptied) a e = go (eqb back new) refl e
     go true q f =
         let g : record { ah = SUCCESS; al = none; carry = false; start = start; emptied = emptied } ≡ a = cc in
         (ap (λ (x : WrittenNumbers). Run (x .start) (x .emptied)) g, q)
-    go false q f = absurd (let z : _≡_ {A = ℕ} 0 1 = cc in omega arith)
-answered-run back new (Refuse ah al) a e = absurd (let z : _≡_ {A = ℕ} 0 1 = cc in omega arith)
+    go false q f = absurd (impossible (cc))
+answered-run back new (Refuse ah al) a e = absurd (impossible (cc))
 
 back-not-full : (t : Bool) (start emptied : ℕ) → ahOf (unless t (refusal SECURITY-FAILURE none) (written start emptied)) ≡ STORAGE-FULL → ⊥
 unfolding unless

@@ -19,7 +19,8 @@ use Rattle.store_blocks.specs.Blocks.{fromBlock, blockCount}
 use Rattle.store_directory.specs.Scan.{first, storeOk, directory}
 use Rattle.store_directory.specs.Kind.{kindAt}
 use Rattle.store_directory.specs.Valid.{Owned}
-use Rattle.store_directory.specs.DirectoryLaws.{startOf, Listing, listing, kind-free}
+use Rattle.store_directory.specs.DirectoryEntries.{startOf}
+use Rattle.store_directory.specs.DirectoryLaws.{Listing, listing, kind-free}
 use Rattle.store_directory.specs.declared.kind.Kind.the-variants.{Unused}
 use Rattle.write_marks.specs.StoredUpdates.{StoredUpdates, Holds}
 use Rattle.write_placement.specs.LegalByNumber.{LegalByNumber}

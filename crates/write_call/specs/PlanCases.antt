@@ -28,7 +28,8 @@ use Rattle.write_plan.specs.declared.Plan.{Plan}
 use Rattle.write_plan.specs.declared.Plan.the-variants.{Refuse}
 use Rattle.processor_list.specs.Covered.{Covered, one-is}
 use Rattle.write_plan.specs.CandidateMarks.{storedUpdates}
-use Rattle.write_plan.specs.CandidateMarkLaws.{Marks, stored-same}
+use Rattle.write_plan.specs.RightMarks.{Marks}
+use Rattle.write_plan.specs.CandidateMarkLaws.{stored-same}
 use Rattle.write_plan.specs.Plan.{markedPlan}
 use Rattle.write_call.specs.Write.{goodPlan, judgedPlan, writePlan}
 

@@ -7,9 +7,9 @@ use Prim.Native.Nat.{ℕ, _+_, _≤_}
 use mathlib.Core.Path.{_≡_, refl, sym, ap, _∙_}
 use mathlib.Core.Bool.{Bool, true, false, not}
 use mathlib.Core.List.{List}
-use native.Mathlib.Omega.{arith}
 use lib.ListN.{length}
 use borrow.Author.Tests.{not-true}
+use Rattle.laws.specs.Orders.{impossible}
 use Rattle.laws.specs.Below.{anyBelow}
 use Rattle.laws.specs.Count.{countBelow}
 use Rattle.laws.specs.Least.{Pick, nowhere, at}
@@ -45,7 +45,7 @@ stored-laid old list cand ok =
 pub passed : (t : Bool) (ah al : ℕ) (rest : Plan) (start emptied : ℕ) → unless t (Refuse ah al) rest ≡ Run start emptied → (t ≡ true) × (rest ≡ Run start emptied)
 unfolding unless
 passed true ah al rest start emptied e = (refl, e)
-passed false ah al rest start emptied e = absurd (let z : _≡_ {A = ℕ} 0 1 = cc in omega arith)
+passed false ah al rest start emptied e = absurd (impossible (cc))
 
 pub record Planned (old : List ℕ) (list : ProcessorList) (cand : List ℕ) (start emptied : ℕ) : Type 0 where
   pub store : storeOk old ≡ true
@@ -68,7 +68,7 @@ pub record Planned (old : List ℕ) (list : ProcessorList) (cand : List ℕ) (st
 placed-run : (h : StoredUpdates) (p : Pick) (start emptied : ℕ) → placed h p ≡ Run start emptied
     → (c : ℕ) × (p ≡ at start c) × (emptied ≡ countBelow (h .count) (h .shares) + c)
 unfolding placed
-placed-run h nowhere start emptied e = absurd (let z : _≡_ {A = ℕ} 0 1 = cc in omega arith)
+placed-run h nowhere start emptied e = absurd (impossible (cc))
 placed-run h (at s c) start emptied e =
     let f : s ≡ start = cc in
     let g : countBelow (h .count) (h .shares) + c ≡ emptied = cc in
@@ -113,8 +113,8 @@ module _ (old : List ℕ) (list : ProcessorList) (cand : List ℕ) (start emptie
       let j = judged cand t d n k v in
       let q : k ≡ blocksOf (totalSize cand) = j .blocks ∙ ap blocksOf (j .total) in
       good-run d n (v ∙ rw (j .total, q)) (rw q at e)
-  judged-run BadHeader v e = absurd (let z : _≡_ {A = ℕ} 0 1 = cc in omega arith)
-  judged-run BadSum v e = absurd (let z : _≡_ {A = ℕ} 0 1 = cc in omega arith)
+  judged-run BadHeader v e = absurd (impossible (cc))
+  judged-run BadSum v e = absurd (impossible (cc))
 
 pub plan-run : (old : List ℕ) (list : ProcessorList) (cand : List ℕ) (start emptied : ℕ) → writePlan old list cand ≡ Run start emptied → Planned old list cand start emptied
 unfolding writePlan

@@ -7,9 +7,9 @@ use mathlib.Core.Path.{_≡_, refl}
 use mathlib.Core.Bool.{Bool, true, false, not}
 use mathlib.Core.List.{List}
 use mathlib.Core.Logic.{_⊎_, inl, inr}
-use native.Mathlib.Omega.{arith}
 use lib.Dec.{eqb}
 use borrow.Author.Tests.{not-true}
+use Rattle.laws.specs.Orders.{impossible}
 use Rattle.laws.specs.Below.{anyBelow}
 use Rattle.laws.specs.Least.{Pick, nowhere, at}
 use Rattle.laws.specs.Unless.{unless, unless-all}
@@ -83,7 +83,7 @@ module _ (old cand : List ℕ) (back : ℕ) where
     where
       go : (t : Bool) → eqb back (revision cand) ≡ t → unless t (refusal SECURITY-FAILURE none) (written start emptied) ≡ Refused a
           → bytesAfter old cand back (Run start emptied) ≡ old
-      go true q f = absurd (let z : _≡_ {A = ℕ} 0 1 = cc in omega arith)
+      go true q f = absurd (impossible (cc))
       go false q f = rw q
   answered-refused (Refuse ah al) a e = refl
 

@@ -24,7 +24,8 @@ use Rattle.store_blocks.specs.Blocks.{blockCount}
 use Rattle.store_directory.specs.Scan.{sizeAt, first, storeOk, directory}
 use Rattle.store_directory.specs.Valid.{Owned}
 use Rattle.store_directory.specs.ValidLaws.{store-valid}
-use Rattle.store_directory.specs.DirectoryLaws.{startOf, sizeOf, Listing, listing}
+use Rattle.store_directory.specs.DirectoryEntries.{startOf, sizeOf}
+use Rattle.store_directory.specs.DirectoryLaws.{Listing, listing}
 use Rattle.write_marks.specs.Against.{touchesByNumber, emptiedByNumber, within, fills}
 use Rattle.write_marks.specs.StoredMarks.{storedOf, marksOf}
 use Rattle.write_marks.specs.declared.Marked.{Marked}
@@ -34,7 +35,7 @@ use Rattle.write_outcome.specs.EmptiedEntries.{marked, Entries, entries-of, mar
 use Rattle.write_plan.specs.declared.Plan.{Plan}
 use Rattle.write_plan.specs.declared.Plan.the-variants.{Run}
 use Rattle.write_plan.specs.CandidateMarks.{sharesEntry}
-use Rattle.write_plan.specs.CandidateMarkLaws.{Shared, Marks}
+use Rattle.write_plan.specs.RightMarks.{Shared, Marks}
 use Rattle.write_call.specs.Write.{touchedAt, emptiedAt, goodPlan, writePlan}
 use Rattle.write_call.specs.Planned.{plan-run}
 

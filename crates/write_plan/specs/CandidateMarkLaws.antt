@@ -1,5 +1,4 @@
 -- The marks as the code keeps them, and how they stand for those of the definitions.
---   Shared, Marks             arrays of marks beside the directory's entries are right
 --   shares-is, needed-is       a turn of the loop that marks; marks-made: its end
 --   outdates-yes, outdating   the test of one update; the scan for one that isn't older, as `search` takes it
 --   stored-same                 right marks agree with the definitions' table
@@ -22,18 +21,8 @@ use Rattle.write_placement.specs.Agree.{Agree}
 use Rattle.write_marks.specs.StoredMarks.{storedOf}
 use Rattle.write_marks.specs.declared.Marked.{Marked}
 use Rattle.processor_list.specs.Covered.{Covered, neededByMarks, needed-by-is}
+use Rattle.write_plan.specs.RightMarks.{Shared, Marks}
 use Rattle.write_plan.specs.CandidateMarks.{sharesEntry, neededEntry, storedUpdates, outdates, outdated}
-
-pub record Shared (old cand starts : List ℕ) (shares : List Bool) (count : ℕ) : Type 0 where
-  pub starts-are : starts ≡ directory old .starts
-  pub count-is : count ≡ directory old .count
-  pub few : count ≤ 32
-  pub marks : Filled false 32 (sharesEntry old cand) count shares
-
-pub record Marks (old : List ℕ) (list : ProcessorList) (cand : List ℕ) (m : Marked) : Type 0 where
-  pub shared : Shared old cand (m .starts) (m .shares) (m .count)
-  pub sizes : m .sizes ≡ directory old .sizes
-  pub needed : Filled false 32 (neededEntry old list cand) (m .count) (m .needed)
 
 -- a turn: d is the directory, u the part at the start of entry i
 module _ (old u cand : List ℕ) (d : Directory) (i : ℕ) (r : Bool) (e : d ≡ directory old) (part : u ≡ fromBlock old (getD (d .starts) i 0)) where

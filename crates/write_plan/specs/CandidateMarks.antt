@@ -14,7 +14,7 @@ use Rattle.update_header.specs.Fields.{revision}
 use Rattle.update_sharing.specs.Shares.{shares}
 use Rattle.store_blocks.specs.Blocks.{fromBlock}
 use Rattle.store_directory.specs.Scan.{directory}
-use Rattle.store_directory.specs.DirectoryLaws.{startOf, sizeOf}
+use Rattle.store_directory.specs.DirectoryEntries.{startOf, sizeOf}
 use Rattle.processor_list.specs.Processors.{ProcessorList, isNeeded}
 use Rattle.write_marks.specs.StoredUpdates.{StoredUpdates}
 

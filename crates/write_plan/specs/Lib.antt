@@ -2,5 +2,6 @@
 pub mod CandidateMarks
 pub mod Plan
 pub mod VerdictCode
+pub mod RightMarks
 pub mod CandidateMarkLaws
 pub mod PlanLaws

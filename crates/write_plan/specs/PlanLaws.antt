@@ -9,6 +9,7 @@ use mathlib.Core.Bool.{Bool, true, false}
 use mathlib.Core.List.{List}
 use native.Mathlib.Omega.{arith}
 use lib.ListN.{length}
+use Rattle.laws.specs.Orders.{impossible}
 use Rattle.laws.specs.Below.{anyBelow}
 use Rattle.laws.specs.Unless.{unless}
 use Rattle.store_blocks.specs.Blocks.{blockCount}
@@ -39,12 +40,12 @@ choose-most h n k s c e =
     omega arith
 
 choice-at : (p : Pick) (s c : ℕ) → choiceOf p ≡ At s c → p ≡ at s c
-choice-at nowhere s c e = absurd (let z : _≡_ {A = ℕ} 0 1 = cc in omega arith)
+choice-at nowhere s c e = absurd (impossible (cc))
 choice-at (at t d) s c e = let p : t ≡ s = cc in let q : d ≡ c = cc in rw (p, q)
 
 choice-nowhere : (p : Pick) → choiceOf p ≡ Nowhere → p ≡ nowhere
 choice-nowhere nowhere e = refl
-choice-nowhere (at t d) e = absurd (let z : _≡_ {A = ℕ} 0 1 = cc in omega arith)
+choice-nowhere (at t d) e = absurd (impossible (cc))
 
 -- r is what `choose_run` answered, v how many share
 module _ (m : Marked) (n k : ℕ) (r : Choice) (e : r ≡ choiceOf (choose n k (storedOf m))) where

@@ -6,7 +6,7 @@ ghost use Prim.Native.Nat.{_/_, _≤_};
 ghost use lib.ListN.{length};
 ghost use Rattle.write_marks.specs.StoredMarks.{storedOf, marksOf};
 ghost use Rattle.write_placement.specs.Choose.{choose};
-ghost use Rattle.write_plan.specs.CandidateMarkLaws.{Shared};
+ghost use Rattle.write_plan.specs.RightMarks.{Shared};
 ghost use Rattle.write_plan.specs.Plan.{placed, markedPlan};
 use call_answers::code;
 use store_blocks::MOST_BLOCKS;

@@ -10,7 +10,7 @@ ghost use Rattle.store_blocks.specs.Blocks.{fromBlock};
 ghost use Rattle.store_directory.specs.Scan.{directory};
 ghost use Rattle.processor_list.specs.Covered.{Covered};
 ghost use Rattle.write_plan.specs.CandidateMarks.{outdated};
-ghost use Rattle.write_plan.specs.CandidateMarkLaws.{Shared, Marks};
+ghost use Rattle.write_plan.specs.RightMarks.{Shared, Marks};
 use store_blocks::MOST_BLOCKS;
 use store_directory::Directory;
 use update_header::fields;
