@@ -8,7 +8,7 @@ use native.Mathlib.Omega.{arith}
 use lib.ListN.{length, take, drop, length-drop, drop-of-length-le}
 use lib.Seq.{take-nil, take-all}
 use Rattle.laws.specs.Same.{Same, same-less, same-drop, same-take}
-use Rattle.bytes_dwords.specs.Dword.{dword-same}
+use Rattle.bytes_dwords.specs.DwordLaws.{dword-same}
 use Rattle.update_header.specs.Fields.{dataSize}
 use Rattle.update_header.specs.DataPart.{dataPart}
 
