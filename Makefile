@@ -22,7 +22,7 @@ board:
 	$(CC) $(CFLAGS) -Iinclude examples/board.c target/staticlib/libboard.a -o target/board
 
 vectors:
-	$(REFERENCE) -- vectors crates/vectors
+	$(REFERENCE) -- vectors crates/test_vectors
 
 differ:
 	rt staticlib board
@@ -32,3 +32,8 @@ bench:
 	rt staticlib board
 	$(REFERENCE) --features board -- bench $(RUNS)
 	$(REFERENCE) --features board,shifted -- bench $(RUNS)
+
+# make reference-test: the second program's own tests, which don't need the library.
+.PHONY: reference-test
+reference-test:
+	cargo test --quiet --manifest-path reference/Cargo.toml
