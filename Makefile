@@ -48,3 +48,8 @@ bench:
 	rt staticlib board
 	$(REFERENCE) --features board -- bench $(RUNS)
 	$(REFERENCE) --features board,shifted -- bench $(RUNS)
+
+# make reference-test: the second program's own tests, which don't need the library.
+.PHONY: reference-test
+reference-test:
+	cargo test --quiet --manifest-path reference/Cargo.toml

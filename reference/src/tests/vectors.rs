@@ -1,9 +1,19 @@
-//! Tests the vectors: reads the steps as another program would, makes the calls with
-//! the fast form, and compares the lines.
+//! Tests of the vectors: their steps are read as another program reads them, and the
+//! published files are what the model answers.
 
-use crate::agree::fast_answer;
-use crate::calls::{Call, Request, CANDIDATE_ROOM, DESTINATION_ROOM, STORE_ROOM};
-use crate::vectors::{self, digest, line};
+use super::plain_form::plain_answer;
+use super::published;
+use crate::calls::{Answer, Call, Request, CANDIDATE_ROOM, DESTINATION_ROOM, STORE_ROOM};
+use crate::edges::edges;
+use crate::generate::{Generator, Style};
+use crate::model;
+use crate::vectors::{self, digest, line, Vectors};
+use std::env;
+use std::fs;
+use std::process;
+
+/// The program that runs the vectors.
+const PROGRAM: &str = "test_vectors";
 
 /// Reads steps.
 struct Reader<'a> {
@@ -30,8 +40,8 @@ impl<'a> Reader<'a> {
     }
 }
 
-/// The lines that the steps ask for, from the fast form.
-fn replay(stdin: &[u8]) -> String {
+/// Makes the calls that the steps ask for, and gives the lines of their answers.
+fn replay(stdin: &[u8], mut answer: impl FnMut(&Call) -> Answer) -> String {
     let rooms = [STORE_ROOM, CANDIDATE_ROOM, DESTINATION_ROOM];
     let mut buffers = rooms.map(|room| vec![0u8; room]);
     let mut lengths = [0usize; 3];
@@ -88,7 +98,7 @@ fn replay(stdin: &[u8]) -> String {
         let loading = reader.byte();
         assert!(loading <= 1);
         let lent = |buffer: usize| buffers[buffer][..lengths[buffer]].to_vec();
-        let answer = fast_answer(&Call {
+        let answer = answer(&Call {
             request,
             loading: loading == 1,
             store: lent(0),
@@ -111,9 +121,52 @@ fn replay(stdin: &[u8]) -> String {
 }
 
 #[test]
-fn the_vectors_can_be_replayed() {
-    let vectors = vectors::vectors();
-    assert!(vectors.tally.missing().is_empty());
-    assert!(vectors.stdin.len() + vectors.stdout.len() < 4_000_000);
-    assert!(replay(&vectors.stdin) == vectors.stdout);
+fn the_steps_give_back_the_calls() {
+    let mut vectors = Vectors::new();
+    let mut calls = edges();
+    for call in &calls {
+        vectors.add(call);
+    }
+    for (style, seed) in [(Style::Compact, 5), (Style::Wide, 6)] {
+        let mut generator = Generator::new(seed, style);
+        for _ in 0..1000 {
+            let call = generator.draw();
+            calls.push(call.clone());
+            let answer = vectors.add(call);
+            generator.answered(answer);
+        }
+    }
+    let mut read = 0;
+    replay(&vectors.stdin, |call| {
+        assert!(*call == calls[read], "call {read}, {:X?}", call.request);
+        read += 1;
+        model::answer(call)
+    });
+    assert_eq!(read, calls.len());
+}
+
+#[test]
+fn the_published_files_are_those_that_are_written() {
+    let directory = env::temp_dir().join(format!("vectors-{}", process::id()));
+    let result = vectors::write_vectors(&directory);
+    let written = ["stdin", "stdout"].map(|name| fs::read(directory.join(name)));
+    fs::remove_dir_all(&directory).unwrap();
+    assert_eq!(result, Ok(()));
+    for (name, bytes) in ["stdin", "stdout"].into_iter().zip(written) {
+        assert!(bytes.unwrap() == published(PROGRAM, name), "{name}");
+    }
+}
+
+#[test]
+fn the_published_answers_are_those_of_both_forms() {
+    let stdin = published(PROGRAM, "stdin");
+    let stdout = String::from_utf8(published(PROGRAM, "stdout")).unwrap();
+    let model = replay(&stdin, model::answer);
+    let plain = replay(&stdin, plain_answer);
+    for (form, text) in [("the model", model), ("the plain form", plain)] {
+        for (number, (line, right)) in text.lines().zip(stdout.lines()).enumerate() {
+            assert_eq!(line, right, "call {number}, {form}");
+        }
+        assert!(text == stdout, "{form}");
+    }
 }

@@ -1,13 +1,13 @@
-//! Tests the fast form against the model, on random calls.
+//! Tests of the plain form against the model: every word, and every byte lent.
 
 use crate::calls::{Answer, Call, Request};
+use crate::edges::edges;
 use crate::fast;
 use crate::generate::{Generator, Style};
 use crate::model;
-use crate::tally::Tally;
 
-/// The fast form's answer to a call. The words are preset, so that one left out shows.
-pub fn fast_answer(call: &Call) -> Answer {
+/// The plain form's answer to a call. The words are preset, so that one left out shows.
+pub fn plain_answer(call: &Call) -> Answer {
     let mut words = [0xDEAD_BEEF; 16];
     let mut store = call.store.clone();
     let mut destination = call.destination.clone();
@@ -45,20 +45,34 @@ pub fn fast_answer(call: &Call) -> Answer {
     }
 }
 
+/// The two answers are the same; if not, the call and the words are told.
+fn agree(number: usize, call: &Call, right: &Answer) {
+    let plain = plain_answer(call);
+    let told = format!("call {number}, {:X?}", call.request);
+    assert_eq!((plain.ax, plain.words), (right.ax, right.words), "{told}");
+    assert!(plain.store == right.store, "{told}: the store");
+    assert!(
+        plain.destination == right.destination,
+        "{told}: the destination"
+    );
+}
+
 #[test]
-fn the_fast_form_agrees_with_the_model() {
+fn the_plain_form_agrees_on_random_calls() {
     for (style, seed) in [(Style::Wide, 1), (Style::Compact, 2)] {
         let mut generator = Generator::new(seed, style);
-        let mut tally = Tally::default();
-        for _ in 0..20_000 {
+        for number in 0..20_000 {
             let call = generator.draw();
             let answer = model::answer(call);
-            assert!(fast_answer(call) == answer, "{:?}", call.request);
-            tally.add(call, &answer);
+            agree(number, call, &answer);
             generator.answered(answer);
         }
-        assert!(tally.missing().is_empty(), "{:X?}", tally.missing());
-        let (past, all) = tally.past_revision();
-        assert!(3 * past > all, "{past} of {all}");
+    }
+}
+
+#[test]
+fn the_plain_form_agrees_at_every_edge() {
+    for (number, call) in edges().iter().enumerate() {
+        agree(number, call, &model::answer(call));
     }
 }
