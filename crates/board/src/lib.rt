@@ -24,13 +24,17 @@ pub extern "C" fn update_store_call(
     destination: &mut [u8],
     answer: &mut [u32; 16],
 ) -> u32
-    ensures result { λ r. ⌜ r ≡ axOf (callReply (inputsOf function «sub_function» task block loading (now (store .entry)) (now (signatures .entry))
+    ensures result { λ r. ⌜ r ≡ axOf (callReply (inputsOf function «sub_function» task block loading (now (store .entry))
+        (now (signatures .entry))
         (now (platforms .entry)) (now (candidate .entry)) «read_back» (now (destination .entry))) .answer) ⌝ }
-    ensures answers { λ r. ⌜ now (answer .exit) ≡ callWords (callReply (inputsOf function «sub_function» task block loading (now (store .entry)) (now (signatures .entry))
+    ensures answers { λ r. ⌜ now (answer .exit) ≡ callWords (callReply (inputsOf function «sub_function» task block loading
+        (now (store .entry)) (now (signatures .entry))
         (now (platforms .entry)) (now (candidate .entry)) «read_back» (now (destination .entry)))) ⌝ }
-    ensures stores { λ r. ⌜ now (store .exit) ≡ callStore (inputsOf function «sub_function» task block loading (now (store .entry)) (now (signatures .entry))
+    ensures stores { λ r. ⌜ now (store .exit) ≡ callStore (inputsOf function «sub_function» task block loading
+        (now (store .entry)) (now (signatures .entry))
         (now (platforms .entry)) (now (candidate .entry)) «read_back» (now (destination .entry))) ⌝ }
-    ensures copies { λ r. ⌜ now (destination .exit) ≡ callDestination (inputsOf function «sub_function» task block loading (now (store .entry)) (now (signatures .entry))
+    ensures copies { λ r. ⌜ now (destination .exit) ≡ callDestination (inputsOf function «sub_function» task block loading
+        (now (store .entry)) (now (signatures .entry))
         (now (platforms .entry)) (now (candidate .entry)) «read_back» (now (destination .entry))) ⌝ }
 {
     if function != call_dispatch::FUNCTION {
@@ -69,7 +73,8 @@ pub extern "C" fn update_store_load(
     answer: &mut [u32; 16],
 ) -> u32
     ensures result { λ r. ⌜ r ≡ loadAx (loadChoice loading (now (store .entry)) signature platform) ⌝ }
-    ensures answers { λ r. ⌜ now (answer .exit) ≡ loadWords loading (now (store .entry)) (loadChoice loading (now (store .entry)) signature platform) ⌝ }
+    ensures answers { λ r. ⌜ now (answer .exit) ≡ loadWords loading (now (store .entry)) (loadChoice loading
+        (now (store .entry)) signature platform) ⌝ }
 {
     let choice = load_choice::choose(loading, store, signature, platform);
     board_load_words::load_words(choice, loading, store, answer);

@@ -46,7 +46,8 @@ pub fn call(
 ) -> Reply
     ensures replies { λ r. ⌜ r ≡ callReply (inputsOf function sub task block loading (now (store .entry)) (now (signatures .entry))
         (now (platforms .entry)) (now (candidate .entry)) back (now (destination .entry))) ⌝ }
-    ensures stores { λ r. ⌜ now (store .exit) ≡ callStore (inputsOf function sub task block loading (now (store .entry)) (now (signatures .entry))
+    ensures stores { λ r. ⌜ now (store .exit) ≡ callStore (inputsOf function sub task block loading (now (store .entry))
+        (now (signatures .entry))
         (now (platforms .entry)) (now (candidate .entry)) back (now (destination .entry))) ⌝ }
     ensures copies { λ r. ⌜ now (destination .exit) ≡ callDestination (inputsOf function sub task block loading (now (store .entry))
         (now (signatures .entry)) (now (platforms .entry)) (now (candidate .entry)) back (now (destination .entry))) ⌝ }

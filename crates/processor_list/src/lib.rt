@@ -109,8 +109,10 @@ pub fn is_needed(
     d: u32,
     n: u32,
 ) -> bool
-    requires { ⌜ (length (now signatures) ≤ 8) × (length (now signatures) ≡ length (now platforms)) × (d ≡ dataSize (now u)) × (n ≡ pairCount (now u)) ⌝ }
-    ensures { λ r. ⌜ r ≡ anyBelow (length (now (signatures .entry))) (neededByMarks (listOf (now (signatures .entry)) (now (platforms .entry))) marks (now (u .entry))) ⌝ }
+    requires { ⌜ (length (now signatures) ≤ 8) × (length (now signatures) ≡ length (now platforms)) × (d ≡ dataSize (now u)) ×
+        (n ≡ pairCount (now u)) ⌝ }
+    ensures { λ r. ⌜ r ≡ anyBelow (length (now (signatures .entry))) (neededByMarks (listOf (now (signatures .entry))
+        (now (platforms .entry))) marks (now (u .entry))) ⌝ }
 {
     let mut i: usize = 0;
     while i < signatures.len() {

@@ -33,7 +33,8 @@ fn store_candidate<'a>(
     candidate: &[u8],
 )
     requires { ⌜ Storing (now store) (now candidate) (marksOf (now starts) (now sizes) (now shares) [] count) start ⌝ }
-    ensures { λ _. ⌜ now (store .exit) ≡ outcomeBytes (now (store .entry)) (totalSize (now (candidate .entry))) (now (candidate .entry)) start (emptiedAt (now (store .entry)) (now (candidate .entry)) start) ⌝ }
+    ensures { λ _. ⌜ now (store .exit) ≡ outcomeBytes (now (store .entry)) (totalSize (now (candidate .entry)))
+        (now (candidate .entry)) start (emptiedAt (now (store .entry)) (now (candidate .entry)) start) ⌝ }
 {
     let t = fields::total_size(candidate);
     let k = update_sizes::blocks_of(t);

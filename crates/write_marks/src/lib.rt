@@ -32,7 +32,8 @@ pub fn ruled_out<'a>(
     s: u32,
 ) -> bool
     requires { ⌜ count ≤ 32 ⌝ }
-    ensures { λ r. ⌜ r ≡ ruledOut (storedOf (marksOf (now (starts .entry)) (now (sizes .entry)) (now (shares .entry)) (now (needed .entry)) count)) k s ⌝ }
+    ensures { λ r. ⌜ r ≡ ruledOut (storedOf (marksOf (now (starts .entry)) (now (sizes .entry)) (now (shares .entry))
+        (now (needed .entry)) count)) k s ⌝ }
 {
     let mut i: usize = 0;
     while i < count {
@@ -55,7 +56,8 @@ pub fn lost<'a>(
     limit: u32,
 ) -> u32
     requires { ⌜ count ≤ 32 ⌝ }
-    ensures { λ r. ⌜ r ≡ capped limit (lost (storedOf (marksOf (now (starts .entry)) (now (sizes .entry)) (now (shares .entry)) [] count)) k s) ⌝ }
+    ensures { λ r. ⌜ r ≡ capped limit (lost (storedOf (marksOf (now (starts .entry)) (now (sizes .entry))
+        (now (shares .entry)) [] count)) k s) ⌝ }
 {
     let mut touched: u32 = 0;
     let mut i: usize = 0;
@@ -126,7 +128,8 @@ pub fn to_fill<'a>(
     s: u32,
 ) -> [bool; MOST_BLOCKS]
     requires { ⌜ count ≤ 32 ⌝ }
-    ensures { λ r. ⌜ Filled false 32 (fills (storedOf (marksOf (now (starts .entry)) (now (sizes .entry)) (now (shares .entry)) [] count)) k s) count r ⌝ }
+    ensures { λ r. ⌜ Filled false 32 (fills (storedOf (marksOf (now (starts .entry)) (now (sizes .entry))
+        (now (shares .entry)) [] count)) k s) count r ⌝ }
 {
     let mut marks = [false; MOST_BLOCKS];
     let mut i: usize = 0;

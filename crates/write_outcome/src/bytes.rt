@@ -53,7 +53,8 @@ pub fn write_bytes<'a>(
     requires { ⌜ Entries (now store) (now starts) (now sizes) count ⌝ }
     requires { ⌜ (t ≤ length (now candidate)) × (t ≤ 32768) ⌝ }
     requires { ⌜ (start + blocksOf t) * 2048 ≤ length (now store) ⌝ }
-    ensures { λ _. ⌜ now (store .exit) ≡ outcomeBytes (now (store .entry)) t (now (candidate .entry)) start (marked (now (starts .entry)) gone count) ⌝ }
+    ensures { λ _. ⌜ now (store .exit) ≡ outcomeBytes (now (store .entry)) t (now (candidate .entry)) start (marked
+        (now (starts .entry)) gone count) ⌝ }
 {
     empty_marked(store, starts, sizes, gone, count);
     let at = start as usize * BLOCK;

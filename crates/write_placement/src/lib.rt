@@ -37,7 +37,8 @@ fn tried<'a>(
     sofar: Choice,
 ) -> Choice
     requires { ⌜ count ≤ 32 ⌝ }
-    ensures { λ r. ⌜ r ≡ turn (storedOf (marksOf (now (starts .entry)) (now (sizes .entry)) (now (shares .entry)) (now (needed .entry)) count)) k s sofar ⌝ }
+    ensures { λ r. ⌜ r ≡ turn (storedOf (marksOf (now (starts .entry)) (now (sizes .entry)) (now (shares .entry))
+        (now (needed .entry)) count)) k s sofar ⌝ }
 {
     let most = limit(sofar);
     let touched = write_marks::lost(starts, sizes, shares, count, k, s, most);
@@ -73,7 +74,8 @@ pub fn choose_run<'a>(
     k: u32,
 ) -> Choice
     requires { ⌜ (count ≤ 32) × (n ≤ 32) ⌝ }
-    ensures { λ r. ⌜ r ≡ choiceOf (choose n k (storedOf (marksOf (now (starts .entry)) (now (sizes .entry)) (now (shares .entry)) (now (needed .entry)) count))) ⌝ }
+    ensures { λ r. ⌜ r ≡ choiceOf (choose n k (storedOf (marksOf (now (starts .entry)) (now (sizes .entry))
+        (now (shares .entry)) (now (needed .entry)) count))) ⌝ }
 {
     let mut sofar = Choice::Nowhere;
     let mut s: u32 = 0;

@@ -31,7 +31,9 @@ fn place<'a>(
     k: u32,
 ) -> Plan
     requires { ⌜ (count ≤ 32) × (n ≤ 32) ⌝ }
-    ensures { λ r. ⌜ r ≡ placed (storedOf (marksOf (now (starts .entry)) (now (sizes .entry)) (now (shares .entry)) (now (needed .entry)) count)) (choose n k (storedOf (marksOf (now (starts .entry)) (now (sizes .entry)) (now (shares .entry)) (now (needed .entry)) count))) ⌝ }
+    ensures { λ r. ⌜ (let h = storedOf (marksOf (now (starts .entry)) (now (sizes .entry)) (now (shares .entry))
+        (now (needed .entry)) count) in
+        r ≡ placed h (choose n k h)) ⌝ }
 {
     let choice = write_placement::choose_run(starts, sizes, shares, needed, count, n, k);
     match choice {
@@ -58,7 +60,8 @@ pub fn plan_marked<'a>(
     k: u32,
 ) -> Plan
     requires { ⌜ Shared (now store) (now candidate) (now starts) (now shares) count × (length (now store) / 2048 ≤ 32) ⌝ }
-    ensures { λ r. ⌜ r ≡ markedPlan (now (store .entry)) (now (candidate .entry)) (storedOf (marksOf (now (starts .entry)) (now (sizes .entry)) (now (shares .entry)) (now (needed .entry)) count)) k ⌝ }
+    ensures { λ r. ⌜ r ≡ markedPlan (now (store .entry)) (now (candidate .entry)) (storedOf (marksOf (now (starts .entry))
+        (now (sizes .entry)) (now (shares .entry)) (now (needed .entry)) count)) k ⌝ }
 {
     if marks::outdated(store, starts, shares, count, candidate) {
         return Plan::Refuse {
