@@ -7,14 +7,14 @@ use mathlib.Core.Bool.{Bool, true, false, _&&_, and-false}
 use mathlib.Core.List.{List, [], _∷_, _++_}
 use native.Mathlib.Omega.{arith}
 use lib.Dec.{leb, eqb}
-use lib.ListN.{replicate}
+use lib.ListN.{take, replicate}
 use borrow.Author.Tests.{ne-eqb}
 use Rattle.laws.specs.Below.{allBelow, anyBelow}
 use Rattle.laws.specs.Count.{countBelow}
 use Rattle.laws.specs.Least.{least}
 use Rattle.laws.specs.Unless.{unless}
 use Rattle.laws.specs.LowByte.{bit}
-use Rattle.bytes_dwords.specs.Dword.{dword}
+use Rattle.bytes_dwords.specs.Dword.{little, dword}
 use Rattle.bytes_dwords.specs.Sum.{dwordsOf, total, dwordSum}
 use Rattle.update_sizes.specs.Sizes.{dataSizeOf, totalSizeOf, sizesOk, entriesOf, blocksOf, entryOffset}
 use Rattle.update_header.specs.Fields.{dataSize, totalSize, tableCount, entryCount}
@@ -43,10 +43,34 @@ sizes-code d t n h s e f g = rw (e, f, g, h) (go (headerOk s))
     go true = refl
     go false = refl
 
+-- the four bytes of a number below 2^32 are that number
+byte-1 : (c : ℕ) → c / 256 % 256 + 256 * (c / 65536) ≡ c / 256
+byte-1 c = omega arith
+
+byte-2 : (c : ℕ) → c / 65536 % 256 + 256 * (c / 16777216) ≡ c / 65536
+byte-2 c = omega arith
+
+byte-3 : (c : ℕ) → c < 2 ^ 32 → c / 16777216 % 256 ≡ c / 16777216
+byte-3 c l = omega arith
+
+joined : (b0 b1 b2 b3 d1 d2 d3 c : ℕ) → c ≡ b0 + 256 * d1 → b1 + 256 * d2 ≡ d1 → b2 + 256 * d3 ≡ d2 → b3 ≡ d3 → little b0 b1 b2 b3 ≡ c
+joined b0 b1 b2 b3 d1 d2 d3 c e f g h = omega arith
+
+whole : (c : ℕ) → c < 2 ^ 32 → little (c % 256) (c / 256 % 256) (c / 65536 % 256) (c / 16777216 % 256) ≡ c
+whole c l = joined (c % 256) (c / 256 % 256) (c / 65536 % 256) (c / 16777216 % 256) (c / 256) (c / 65536) (c / 16777216) c (omega arith) (byte-1 c) (byte-2 c) (byte-3 c l)
+
 -- with a checksum c the dwords of P with revision 8 sum to c + 07181FF8h
+sum-is : (c : ℕ) → c < 2 ^ 32 → dwordSum (take 2048 (p 8 c)) ≡ (c + 0x07181FF8) % 2 ^ 32
+unfolding p bytes dwordSum dwordsOf total
+sum-is c l = rw (whole c l) (omega arith)
+
+sums-wrong : (c : ℕ) → c < 2 ^ 32 → (c ≡ 0xF8E7E008 → ⊥) → sumsOk (p 8 c) ≡ false
+unfolding sumsOk p bytes totalSize totalSizeOf dword
+sums-wrong c l n = rw (ne-eqb (dwordSum (take 2048 (p 8 c))) 0 (λ e. n (omega (arith, sum-is c l))))
+
 checked : (c : ℕ) → c < 2 ^ 32 → (c ≡ 0xF8E7E008 → ⊥) → codeOf (p 8 c) ≡ INVALID-HEADER-CS
-unfolding p bytes verdict unless headerOk sizesFit sumsOk table dwordSum dwordsOf total dword dataSize totalSize dataSizeOf totalSizeOf sizesOk tableCount entriesOf entryCount blocksOf allBelow entryOk entryOffset sumOf headerSum
-checked c l n = rw (ne-eqb _ 0 (λ e. n (omega arith)))
+unfolding verdict unless headerOk sizesFit p bytes dword dataSize totalSize dataSizeOf totalSizeOf sizesOk tableCount
+checked c l n = rw (sums-wrong c l n)
 
 pub starred : Starred
 unfolding p bytes verdict unless headerOk sizesFit sumsOk table dwordSum dwordsOf total dword dataSize totalSize dataSizeOf totalSizeOf sizesOk tableCount entriesOf entryCount blocksOf allBelow entryOk entryOffset sumOf headerSum covers coversAt pairCovers pairCount signatureAt signatureOffset platformsAt flagsAt flagsOffset names bit anyBelow answer stored stale-first two-stale alternating placed choose least ruledOut rulesOut emptiedByNumber touchesByNumber lost loses countBelow
