@@ -12,3 +12,4 @@ pub mod Answered
 pub mod Theorem
 pub mod WriteCases
 pub mod Refusals
+pub mod SameLists
