@@ -13,3 +13,5 @@ pub mod Theorem
 pub mod WriteCases
 pub mod Refusals
 pub mod SameLists
+pub mod Outdated
+pub mod OutdatedLaws
