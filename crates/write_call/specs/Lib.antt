@@ -15,3 +15,5 @@ pub mod Refusals
 pub mod SameLists
 pub mod Outdated
 pub mod OutdatedLaws
+pub mod RunFree
+pub mod RunFreeLaws
