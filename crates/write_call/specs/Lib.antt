@@ -12,3 +12,8 @@ pub mod Answered
 pub mod Theorem
 pub mod WriteCases
 pub mod Refusals
+pub mod SameLists
+pub mod Outdated
+pub mod OutdatedLaws
+pub mod RunFree
+pub mod RunFreeLaws
