@@ -7,7 +7,7 @@
 --   blockLine          what block b adds: the line of the update that begins there, or nothing
 --   linesTo            the lines of the updates that begin at the blocks below n, by start
 --   isUnused, unusedAt     a kind is Unused; the kind of block b is
---   freeCount          F, the count of unused blocks
+--   unusedTo           how many of the blocks below n are unused
 --   catalogueText      the whole text
 --   inputText          the text of any input
 use Prim.Native.Nat.{ℕ, zero, suc, _+_}
@@ -51,7 +51,8 @@ inputRoom = largestStore + 1
 -- its start, blocks, revision in eight upper-case hex digits, how many platforms the header flags name, and the lowest platform
 unfoldable pub lineOf : ℕ → ℕ → ℕ → ℕ → ℕ → List ℕ
 lineOf start blocks revision platforms lowest =
-    (decimal start ++ space) ++ (decimal blocks ++ space) ++ hex8 revision ++ space ++ (decimal platforms ++ space) ++ (decimal lowest ++ newline)
+    (decimal start ++ space) ++ (decimal blocks ++ space) ++ hex8 revision ++ space
+    ++ (decimal platforms ++ space) ++ (decimal lowest ++ newline)
 
 abbrev pub catalogueLine : List ℕ → ℕ → ℕ → List ℕ
 catalogueLine s b k = lineOf b k (revision (fromBlock s b)) (platformCount (fromBlock s b)) (lowestPlatform (fromBlock s b))
@@ -76,16 +77,17 @@ isUnused Later = false
 unfoldable pub unusedAt : List ℕ → ℕ → Bool
 unusedAt s b = isUnused (kindAt s b)
 
-unfoldable pub freeCount : List ℕ → ℕ
-freeCount s = countBelow (blockCount s) (unusedAt s)
+unfoldable pub unusedTo : List ℕ → ℕ → ℕ
+unusedTo s n = countBelow n (unusedAt s)
 
--- the line `blocks N`; per update, by start, its line; then the line `free F`. Of a bad store `bad store` and a newline only
+-- the line `blocks N`; per update, by start, its line; then the line `free F`, F being the count of unused blocks.
+-- Of a bad store `bad store` and a newline only.
 unfoldable pub catalogueText : List ℕ → List ℕ
 catalogueText s =
     unless (storeOk s) badText
     (blocksWord ++ (decimal (blockCount s) ++ newline)
     ++ linesTo s (blockCount s)
-    ++ freeWord ++ (decimal (freeCount s) ++ newline))
+    ++ freeWord ++ (decimal (unusedTo s (blockCount s)) ++ newline))
 
 -- "for a bad store or more than 65,536 bytes it writes `bad store` and a newline only"
 unfoldable pub inputText : List ℕ → List ℕ

@@ -7,7 +7,7 @@
 --   text-short               it has no more bytes than the text that was made
 --   input-listed             one byte more than the largest store has is enough of any input
 use Prim.Native.Nat.{ℕ, _+_, _/_, _<_, _≤_}
-use mathlib.Core.Path.{_≡_, refl, sym, _∙_}
+use mathlib.Core.Path.{_≡_, refl}
 use mathlib.Core.Bool.{true, false}
 use mathlib.Core.List.{List, _++_}
 use native.Mathlib.Omega.{arith}
@@ -24,11 +24,12 @@ use Rattle.store_directory.specs.ValidLaws.{store-valid}
 use Rattle.store_directory.specs.DirectoryLaws.{startOf, sizeOf}
 use Rattle.store_directory.specs.declared.Directory.{Directory}
 use Rattle.report_text.specs.Digits.{decimal}
-use Rattle.report_text.specs.Texts.{textRoom, noText, added, textOf}
+use Rattle.report_text.specs.Texts.{textRoom, noText, added}
 use Rattle.report_text.specs.TextLaws.{added-none, added-more, added-long, none-long, made-text}
 use Rattle.report_text.specs.declared.Text.{Text}
-use Rattle.report_catalogue.specs.Catalogue.{newline, blocksWord, freeWord, badText, largestStore, inputRoom, catalogueLine, linesTo, freeCount, catalogueText, inputText}
-use Rattle.report_catalogue.specs.Walk.{entryLine, entriesTo, usedTo}
+use Rattle.report_catalogue.specs.Catalogue.{newline, blocksWord, freeWord, badText, largestStore, inputRoom}
+use Rattle.report_catalogue.specs.Catalogue.{catalogueLine, unusedTo, catalogueText, inputText}
+use Rattle.report_catalogue.specs.Walk.{entriesTo, usedTo}
 use Rattle.report_catalogue.specs.WalkLaws.{entries-none, entries-more, lines-entries, free-entries}
 
 pub count-is : (s : List ℕ) → length s / 2048 ≡ blockCount s
@@ -45,8 +46,8 @@ pub walk-none : (s : List ℕ) (d : Directory) (t : Text) → t ≡ added t (ent
 walk-none s d t = rw (entries-none s d) (added-none t)
 
 -- b and k are what was read of entry i
-pub walk-more : (s : List ℕ) (d : Directory) (i b k : ℕ) (t u r : Text) → b ≡ startOf d i → k ≡ sizeOf d i → u ≡ added t (entriesTo s d i) → r ≡ added u (catalogueLine s b k)
-    → r ≡ added t (entriesTo s d (i + 1))
+pub walk-more : (s : List ℕ) (d : Directory) (i b k : ℕ) (t u r : Text) → b ≡ startOf d i → k ≡ sizeOf d i → u ≡ added t (entriesTo s d i)
+    → r ≡ added u (catalogueLine s b k) → r ≡ added t (entriesTo s d (i + 1))
 walk-more s d i b k t u r e f g h = rw (entries-more s d i, ← e, ← f) (added-more t u r (entriesTo s d i) (catalogueLine s b k) g h)
 
 -- d is the local that holds the directory
@@ -56,12 +57,12 @@ module _ (s : List ℕ) (d : Directory) (e : d ≡ directory s) where
   text-bad empty text f g h = rw (← directory-ok s d e, f, h, g)
 
   -- what stands before the lines, with them, before the last number, and the whole
-  pub text-good : (empty word head lines foot text : Text) (n i free : ℕ) → storeOk s ≡ true → n ≡ blockCount s → i ≤ d .count → d .count ≤ i → free + usedTo d i ≡ n
-      → empty ≡ noText → word ≡ added empty blocksWord → head ≡ added word (decimal n ++ newline) → lines ≡ added head (entriesTo s d i)
-      → foot ≡ added lines freeWord → text ≡ added foot (decimal free ++ newline) → text ≡ added noText (catalogueText s)
+  pub text-good : (empty word head lines foot text : Text) (n i free : ℕ) → storeOk s ≡ true → n ≡ blockCount s → i ≤ d .count → d .count ≤ i
+      → free + usedTo d i ≡ n → empty ≡ noText → word ≡ added empty blocksWord → head ≡ added word (decimal n ++ newline)
+      → lines ≡ added head (entriesTo s d i) → foot ≡ added lines freeWord → text ≡ added foot (decimal free ++ newline) → text ≡ added noText (catalogueText s)
   unfolding catalogueText unless
   text-good empty word head lines foot text n i free ok c l m f g h j k o p =
-      let q : freeCount s ≡ free = omega (arith, free-entries s ok d e i l m) in
+      let q : unusedTo s (blockCount s) ≡ free = omega (arith, free-entries s ok d e i l m) in
       rw (ok, lines-entries s ok d e i l m, q, ← c, ← g)
       (added-more _ _ _ _ _ (added-more _ _ _ _ _ (added-more _ _ _ _ _ (added-more _ _ _ _ _ h j) k) o) p)
 
@@ -77,5 +78,6 @@ pub input-listed : (all : List ℕ) → catalogueText (take inputRoom all) ≡ i
 unfolding inputText unless
 input-listed all =
     ⊎-elim (λ (h : length all ≤ largestStore). rw (take-all inputRoom all (omega arith), le-leb (length all) largestStore h))
-    (λ (h : largestStore < length all). rw (lt-leb (length all) largestStore h) (long-bad (take inputRoom all) (length-take-le inputRoom all (omega arith))))
+    (λ (h : largestStore < length all).
+    rw (lt-leb (length all) largestStore h) (long-bad (take inputRoom all) (length-take-le inputRoom all (omega arith))))
     (le-or-lt (length all) largestStore)

@@ -15,6 +15,7 @@ use report_text::Text;
 use report_text::give;
 use store_directory::Directory;
 
+// The bytes of a block.
 const BLOCK: usize = 2048;
 
 // The text of a valid store of `n` blocks, whose directory `d` is. A block that no entry has is unused.

@@ -1,4 +1,4 @@
--- `report_catalogue::listing` meets its contract. The loop's invariant: the lines of the entries passed are added, and their blocks are taken off.
+-- `report_catalogue::listing` meets its contract. The loop's invariant: the lines of the entries passed are added, their blocks taken off.
 use mathlib.Core.Path.{_≡_}
 use Prim.Native.Nat.{_+_, _*_, _-_, _≤_}
 use native.Mathlib.Omega.{arith}
