@@ -37,10 +37,14 @@
  *   - no other thread uses the same buffers during the call. Calls on different buffers may run at
  *     the same time.
  *
- * Lengths and counts are in elements: bytes for uint8_t, numbers for uint32_t.
+ * Lengths and counts are in elements: bytes for uint8_t, numbers for uint32_t. They are 64-bit
+ * numbers on every target, whatever its size_t is.
  *
- * THE ARCHIVE `libboard.a` is built for x86-64. The board's processors are IA-32: today the archive
- * serves hosts and tests, and the build for IA-32 awaits a back end.
+ * THE ARCHIVE `libboard.a` is built for two targets: for the board's IA-32 processors
+ * (`make board32`, target/ia32), and for x86-64 hosts (`make board`, target/staticlib). Both come
+ * from the same proved code and give the same answers. On IA-32 it follows the System V convention
+ * of C (arguments on the stack, the result in EAX), is content with a stack aligned to 4 bytes, and
+ * uses no floating-point or vector register.
  *
  * EXAMPLE. Write a candidate; the board has one processor, signature 650h, platform 1:
  *
@@ -60,7 +64,6 @@
 #define UPDATE_STORE_H
 
 #include <stdbool.h>
-#include <stddef.h>
 #include <stdint.h>
 
 #ifdef __cplusplus
@@ -235,12 +238,12 @@ enum {
 uint32_t update_store_call(
     uint32_t function, uint32_t sub_function, uint32_t task, uint32_t block,
     bool loading,
-    uint8_t *store, size_t store_len,
-    const uint32_t *signatures, size_t signature_count,
-    const uint8_t *platforms, size_t platform_count,
-    const uint8_t *candidate, size_t candidate_len,
+    uint8_t *store, uint64_t store_len,
+    const uint32_t *signatures, uint64_t signature_count,
+    const uint8_t *platforms, uint64_t platform_count,
+    const uint8_t *candidate, uint64_t candidate_len,
     uint32_t read_back,
-    uint8_t *destination, size_t destination_len,
+    uint8_t *destination, uint64_t destination_len,
     uint32_t answer[16]);
 
 /*
@@ -262,7 +265,7 @@ uint32_t update_store_call(
  *   5. else                                 chosen, SUCCESS
  */
 uint32_t update_store_load(
-    bool loading, const uint8_t *store, size_t store_len,
+    bool loading, const uint8_t *store, uint64_t store_len,
     uint32_t signature, uint32_t platform,
     uint32_t answer[16]);
 

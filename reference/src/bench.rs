@@ -2,8 +2,9 @@
 //!
 //! A time is the least over many rounds of many calls, with warm buffers; the rounds
 //! of both sides take turns. Each whole run is a process of its own, since a short
-//! call's time depends on where the stack and the buffers happen to lie. Where the write is accepted, the store is put back by a
-//! copy before every call, and the time of that copy alone is taken off both sides.
+//! call's time depends on where the stack and the buffers happen to lie. Where the
+//! write is accepted, the store is put back by a copy before every call, and the time
+//! of that copy alone is taken off both sides.
 
 use crate::board;
 use crate::calls::{Call, Request, BLOCK, PRESENCE};

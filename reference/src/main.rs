@@ -1,8 +1,6 @@
 //! A second implementation of the update store, made from document 01 alone, to check
 //! the library against.
 
-#[cfg(test)]
-mod agree;
 #[cfg(feature = "board")]
 mod bench;
 #[cfg(feature = "board")]
@@ -12,20 +10,18 @@ mod catalogue;
 #[cfg(feature = "board")]
 mod differ;
 mod edges;
-#[cfg(test)]
-mod examples;
 #[cfg(any(test, feature = "board"))]
 mod fast;
 mod generate;
 mod make;
 mod model;
 mod random;
-#[cfg(test)]
-mod replay;
 #[cfg(feature = "board")]
 mod shift;
 mod store;
 mod tally;
+#[cfg(test)]
+mod tests;
 mod update;
 mod vectors;
 mod write;

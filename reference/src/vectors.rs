@@ -142,7 +142,7 @@ pub struct Vectors {
 }
 
 impl Vectors {
-    fn new() -> Vectors {
+    pub fn new() -> Vectors {
         Vectors {
             stdin: Vec::new(),
             stdout: String::new(),
@@ -156,7 +156,7 @@ impl Vectors {
     }
 
     /// Writes one call down, and its answer, which is returned.
-    fn add(&mut self, call: &Call) -> Answer {
+    pub fn add(&mut self, call: &Call) -> Answer {
         let out = &mut self.stdin;
         self.store.become_bytes(&call.store, out);
         self.candidate.become_bytes(&call.candidate, out);

@@ -1,10 +1,12 @@
 // The board's C interface: the proved calls, and their answers laid out in 16 words.
 ghost use mathlib.Core.Path.{_≡_};
-ghost use lib.ListN.{length};
-ghost use Rattle.call_dispatch.specs.Call.{callReply, callStore, callDestination};
+ghost use Rattle.call_dispatch.specs.Call.{inputsOf, callReply, callStore, callDestination};
 ghost use Rattle.load_choice.specs.Load.{loadChoice};
 ghost use Rattle.board_call_words.specs.Words.{axOf, callWords};
 ghost use Rattle.board_load_words.specs.LoadWords.{loadAx, loadWords};
+
+// The image of AX of NOT_IMPLEMENTED.
+const UNKNOWN: u32 = 0x8600;
 
 // The four D042h calls. Function and sub-function are judged first, and an unknown one is answered at once.
 #[no_mangle]
@@ -22,18 +24,26 @@ pub extern "C" fn update_store_call(
     destination: &mut [u8],
     answer: &mut [u32; 16],
 ) -> u32
-    ensures result { λ r. ⌜ r ≡ axOf (callReply function «sub_function» task block loading (now (store .entry)) (now (signatures .entry)) (now (platforms .entry)) (now (candidate .entry)) «read_back» (length (now (destination .entry))) .answer) ⌝ }
-    ensures answers { λ r. ⌜ now (answer .exit) ≡ callWords (callReply function «sub_function» task block loading (now (store .entry)) (now (signatures .entry)) (now (platforms .entry)) (now (candidate .entry)) «read_back» (length (now (destination .entry)))) ⌝ }
-    ensures stores { λ r. ⌜ now (store .exit) ≡ callStore function «sub_function» (now (store .entry)) (now (signatures .entry)) (now (platforms .entry)) (now (candidate .entry)) «read_back» ⌝ }
-    ensures copies { λ r. ⌜ now (destination .exit) ≡ callDestination function «sub_function» block (now (store .entry)) (now (destination .entry)) ⌝ }
+    ensures result { λ r. ⌜ r ≡ axOf (callReply (inputsOf function «sub_function» task block loading (now (store .entry))
+        (now (signatures .entry))
+        (now (platforms .entry)) (now (candidate .entry)) «read_back» (now (destination .entry))) .answer) ⌝ }
+    ensures answers { λ r. ⌜ now (answer .exit) ≡ callWords (callReply (inputsOf function «sub_function» task block loading
+        (now (store .entry)) (now (signatures .entry))
+        (now (platforms .entry)) (now (candidate .entry)) «read_back» (now (destination .entry)))) ⌝ }
+    ensures stores { λ r. ⌜ now (store .exit) ≡ callStore (inputsOf function «sub_function» task block loading
+        (now (store .entry)) (now (signatures .entry))
+        (now (platforms .entry)) (now (candidate .entry)) «read_back» (now (destination .entry))) ⌝ }
+    ensures copies { λ r. ⌜ now (destination .exit) ≡ callDestination (inputsOf function «sub_function» task block loading
+        (now (store .entry)) (now (signatures .entry))
+        (now (platforms .entry)) (now (candidate .entry)) «read_back» (now (destination .entry))) ⌝ }
 {
-    if function != 0xD042 {
+    if function != call_dispatch::FUNCTION {
         board_call_words::unknown_words(loading, answer);
-        return 0x8600;
+        return UNKNOWN;
     }
-    if sub_function > 3 {
+    if sub_function > call_dispatch::READ {
         board_call_words::unknown_words(loading, answer);
-        return 0x8600;
+        return UNKNOWN;
     }
     let reply = call_dispatch::call(
         function,
@@ -63,7 +73,8 @@ pub extern "C" fn update_store_load(
     answer: &mut [u32; 16],
 ) -> u32
     ensures result { λ r. ⌜ r ≡ loadAx (loadChoice loading (now (store .entry)) signature platform) ⌝ }
-    ensures answers { λ r. ⌜ now (answer .exit) ≡ loadWords loading (now (store .entry)) (loadChoice loading (now (store .entry)) signature platform) ⌝ }
+    ensures answers { λ r. ⌜ now (answer .exit) ≡ loadWords loading (now (store .entry)) (loadChoice loading
+        (now (store .entry)) signature platform) ⌝ }
 {
     let choice = load_choice::choose(loading, store, signature, platform);
     board_load_words::load_words(choice, loading, store, answer);

@@ -1,7 +1,6 @@
 -- Laws of the words of a load choice.
---   StartBelow32, load-small    the chosen update begins below block 32
 --   load-wording    the words of each case, as `search` takes them
-use Prim.Native.Nat.{ℕ, _+_, _*_, _<_}
+use Prim.Native.Nat.{ℕ, _+_, _*_}
 use mathlib.Core.Path.{_≡_, _∙_}
 use mathlib.Core.Bool.{Bool}
 use mathlib.Core.List.{List}
@@ -11,9 +10,6 @@ use Rattle.board_row.specs.Row.{flagWord, rowOf}
 use Rattle.call_answers.specs.declared.choice.LoadChoice.{LoadChoice}
 use Rattle.call_answers.specs.declared.choice.LoadChoice.the-variants as choice
 use Rattle.board_load_words.specs.LoadWords.{loadWords}
-
-unfoldable pub StartBelow32 : LoadChoice → Type 0
-StartBelow32 c = (b r : ℕ) → c ≡ choice.Chosen b r → b < 32
 
 -- the words r of each load choice
 module _ (c : LoadChoice) (loading : Bool) (s : List ℕ) (on : ℕ) (e : on ≡ flagWord loading) (r : List ℕ) where
@@ -28,9 +24,5 @@ module _ (c : LoadChoice) (loading : Bool) (s : List ℕ) (on : ℕ) (e : on ≡
   pub load-chosen-words : (b v d : ℕ) (u : List ℕ) → c ≡ choice.Chosen b v → u ≡ fromBlock s b → d ≡ dataSize u → r ≡ rowOf 0 0 on 1 b v (b * 2048 + 48) d → r ≡ loadWords loading s c
   unfolding loadWords rowOf
   load-chosen-words b v d u h f q k = k ∙ rw (h, e, q, f)
-
-pub load-small : (c : LoadChoice) (b r : ℕ) → StartBelow32 c → c ≡ choice.Chosen b r → b < 32
-unfolding StartBelow32
-load-small c b r i h = i b r h
 
 pub ruleset load-wording = (load-refused-words, load-nothing-words, load-chosen-words)

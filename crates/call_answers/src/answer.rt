@@ -1,4 +1,4 @@
-// The answers of the calls: an enum with a struct in each case.
+// The answers of the calls: an enum with a struct in each case, which holds the codes and the case's numbers.
 ghost use mathlib.Core.Path.{_≡_};
 ghost use Rattle.call_answers.specs.Answers.{refusal};
 
@@ -14,29 +14,42 @@ pub struct Presence {
     pub byte7: u8,
     pub loader_version: u32,
     pub blocks: u32,
+    pub ah: u8,
+    pub al: u8,
+    pub carry: bool,
 }
 
 // The start block, and how many stored updates were emptied.
 pub struct Written {
     pub start: u32,
     pub emptied: u32,
+    pub ah: u8,
+    pub al: u8,
+    pub carry: bool,
 }
 
 // 1 for loading on, 0 for off.
 pub struct Control {
     pub status: u8,
+    pub ah: u8,
+    pub al: u8,
+    pub carry: bool,
 }
 
 // How many blocks were copied.
 pub struct Read {
     pub blocks: u32,
+    pub ah: u8,
+    pub al: u8,
+    pub carry: bool,
 }
 
 // The codes; the status is FFh for a control call refused for its task, else 0.
 pub struct Refused {
+    pub status: u8,
     pub ah: u8,
     pub al: u8,
-    pub status: u8,
+    pub carry: bool,
 }
 
 pub enum Answer {
@@ -57,5 +70,10 @@ pub struct Reply {
 pub fn refuse(ah: u8, al: u8) -> Answer
     ensures { λ r. ⌜ r ≡ refusal ah al ⌝ }
 {
-    Answer::Refused(Refused { ah, al, status: 0 })
+    Answer::Refused(Refused {
+        ah,
+        al,
+        carry: true,
+        status: 0,
+    })
 }

@@ -1,3 +1,4 @@
-// The answers of the update calls and of the load choice.
+// The answers of the update calls and of the load choice, and their codes.
 pub mod answer;
 pub mod choice;
+pub mod code;

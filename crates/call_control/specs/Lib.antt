@@ -1,2 +1,3 @@
--- Control (document 01, "The calls", 2), which looks at no store.
+-- Control (document 01, "The calls", 2), which looks at no store: definitions, then laws.
 pub mod Control
+pub mod ControlLaws

@@ -5,6 +5,14 @@ use call_answers::answer::Answer;
 use call_answers::answer::Control;
 use call_answers::answer::Refused;
 use call_answers::answer::Reply;
+use call_answers::code;
+
+// The tasks, and the status of a call that is refused for its task.
+const ENABLE: u32 = 1;
+
+const QUERY: u32 = 2;
+
+const BAD_TASK: u8 = 0xFF;
 
 fn status_of(loading: bool) -> u8
     ensures { λ r. ⌜ r ≡ statusOf loading ⌝ }
@@ -18,6 +26,9 @@ fn accepted(loading: bool) -> Reply
 {
     Reply {
         answer: Answer::Control(Control {
+            ah: code::SUCCESS,
+            al: code::NONE,
+            carry: false,
             status: status_of(loading),
         }),
         loading,
@@ -27,17 +38,18 @@ fn accepted(loading: bool) -> Reply
 pub fn control(task: u32, loading: bool) -> Reply
     ensures { λ r. ⌜ r ≡ controlReply task loading ⌝ }
 {
-    if task == 1 {
+    if task == ENABLE {
         return accepted(true);
     }
-    if task == 2 {
+    if task == QUERY {
         return accepted(loading);
     }
     Reply {
         answer: Answer::Refused(Refused {
-            ah: 0x86,
-            al: 0,
-            status: 0xFF,
+            ah: code::NOT_IMPLEMENTED,
+            al: code::NONE,
+            carry: true,
+            status: BAD_TASK,
         }),
         loading,
     }

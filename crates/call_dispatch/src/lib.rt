@@ -1,18 +1,30 @@
 // The four D042h calls behind one function: it judges function and sub-function first, then hands on.
 ghost use mathlib.Core.Path.{_≡_};
-ghost use lib.ListN.{length};
-ghost use Rattle.call_dispatch.specs.Call.{unknown, callReply, callStore, callDestination};
+ghost use Rattle.call_dispatch.specs.Call.{inputsOf, unknown, callReply, callStore, callDestination};
+ghost use Rattle.call_dispatch.specs.Demand1.{Demand1};
 use call_answers::answer;
 use call_answers::answer::Reply;
+use call_answers::code;
 use call_reads::presence;
 use call_reads::read;
+
+// The function of the update calls, and its sub-functions.
+pub const FUNCTION: u32 = 0xD042;
+
+pub const PRESENCE: u32 = 0;
+
+pub const WRITE: u32 = 1;
+
+pub const CONTROL: u32 = 2;
+
+pub const READ: u32 = 3;
 
 // An unknown function or sub-function does nothing else.
 fn not_implemented(loading: bool) -> Reply
     ensures { λ r. ⌜ r ≡ unknown loading ⌝ }
 {
     Reply {
-        answer: answer::refuse(0x86, 0),
+        answer: answer::refuse(code::NOT_IMPLEMENTED, code::NONE),
         loading,
     }
 }
@@ -32,29 +44,35 @@ pub fn call(
     back: u32,
     destination: &mut [u8],
 ) -> Reply
-    ensures replies { λ r. ⌜ r ≡ callReply function sub task block loading (now (store .entry)) (now (signatures .entry)) (now (platforms .entry)) (now (candidate .entry)) back (length (now (destination .entry))) ⌝ }
-    ensures stores { λ r. ⌜ now (store .exit) ≡ callStore function sub (now (store .entry)) (now (signatures .entry)) (now (platforms .entry)) (now (candidate .entry)) back ⌝ }
-    ensures copies { λ r. ⌜ now (destination .exit) ≡ callDestination function sub block (now (store .entry)) (now (destination .entry)) ⌝ }
+    ensures replies { λ r. ⌜ r ≡ callReply (inputsOf function sub task block loading (now (store .entry)) (now (signatures .entry))
+        (now (platforms .entry)) (now (candidate .entry)) back (now (destination .entry))) ⌝ }
+    ensures stores { λ r. ⌜ now (store .exit) ≡ callStore (inputsOf function sub task block loading (now (store .entry))
+        (now (signatures .entry))
+        (now (platforms .entry)) (now (candidate .entry)) back (now (destination .entry))) ⌝ }
+    ensures copies { λ r. ⌜ now (destination .exit) ≡ callDestination (inputsOf function sub task block loading (now (store .entry))
+        (now (signatures .entry)) (now (platforms .entry)) (now (candidate .entry)) back (now (destination .entry))) ⌝ }
+    ensures demand { λ r. ⌜ Demand1 (inputsOf function sub task block loading (now (store .entry)) (now (signatures .entry))
+        (now (platforms .entry)) (now (candidate .entry)) back (now (destination .entry))) r (now (store .exit)) (now (destination .exit)) ⌝ }
 {
-    if function != 0xD042 {
+    if function != FUNCTION {
         return not_implemented(loading);
     }
-    if sub == 0 {
+    if sub == PRESENCE {
         return Reply {
             answer: presence::presence(store),
             loading,
         };
     }
-    if sub == 1 {
+    if sub == WRITE {
         return Reply {
             answer: write_call::write(store, signatures, platforms, candidate, back),
             loading,
         };
     }
-    if sub == 2 {
+    if sub == CONTROL {
         return call_control::control(task, loading);
     }
-    if sub == 3 {
+    if sub == READ {
         return Reply {
             answer: read::read(store, block, destination),
             loading,

@@ -1,4 +1,6 @@
--- The update calls that only read a store (document 01, "The calls").
+-- The calls that only read a store (document 01, "The calls", 0 and 3): definitions, then laws.
 pub mod Presence
 pub mod Read
+pub mod PresenceLaws
 pub mod ReadLaws
+pub mod ReadRefusals

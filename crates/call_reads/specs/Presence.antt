@@ -1,17 +1,13 @@
 -- Sub-function 0, presence (document 01, "The calls"): bad store, else the ASCII bytes INTE and LPEP, loader version 1, N.
 --   present           the answer, for N blocks
 --   presenceAnswer    the answer of the call
---   presence-yes, presence-no    its cases
-use Prim.Native.Nat.{ℕ, _/_}
-use mathlib.Core.Path.{_≡_}
-use mathlib.Core.Bool.{true, false}
+use Prim.Native.Nat.{ℕ}
+use mathlib.Core.Bool.{false}
 use mathlib.Core.List.{List}
-use lib.ListN.{length}
-use Rattle.laws.specs.Unless.{unless, unless-pass, unless-stop}
+use Rattle.laws.specs.Unless.{unless}
 use Rattle.store_blocks.specs.Blocks.{blockCount}
-use Rattle.store_directory.specs.Scan.{storeOk, directory}
-use Rattle.store_directory.specs.StoreLaws.{directory-ok}
-use Rattle.store_directory.specs.declared.Directory.{Directory}
+use Rattle.store_directory.specs.Scan.{storeOk}
+use Rattle.call_answers.specs.Codes.{SUCCESS, READ-FAILURE, none, bad-store}
 use Rattle.call_answers.specs.Answers.{refusal}
 use Rattle.call_answers.specs.declared.answer.Answer.{Answer}
 use Rattle.call_answers.specs.declared.answer.Answer.the-variants.{Presence}
@@ -20,6 +16,9 @@ use Rattle.call_answers.specs.declared.answer.Answer.the-variants.{Presence}
 abbrev pub present : ℕ → Answer
 present n =
     Presence (record {
+      ah = SUCCESS;
+      al = none;
+      carry = false;
       byte0 = 0x49;
       byte1 = 0x4E;
       byte2 = 0x54;
@@ -33,14 +32,4 @@ present n =
     })
 
 unfoldable pub presenceAnswer : List ℕ → Answer
-presenceAnswer s = unless (storeOk s) (refusal 0x92 1) (present (blockCount s))
-
--- d is the directory that was read, and z the answer
-module _ (s : List ℕ) (d : Directory) (z : Answer) (e : d ≡ directory s) where
-  pub presence-yes : d .ok ≡ true → z ≡ present (length s / 2048) → z ≡ presenceAnswer s
-  unfolding presenceAnswer blockCount
-  presence-yes h k = unless-pass (d .ok) (storeOk s) z (refusal 0x92 1) (present (length s / 2048)) (directory-ok s d e) h k
-
-  pub presence-no : d .ok ≡ false → z ≡ refusal 0x92 1 → z ≡ presenceAnswer s
-  unfolding presenceAnswer
-  presence-no h k = unless-stop (d .ok) (storeOk s) z (refusal 0x92 1) (present (blockCount s)) (directory-ok s d e) h k
+presenceAnswer s = unless (storeOk s) (refusal READ-FAILURE bad-store) (present (blockCount s))

@@ -1,10 +1,11 @@
 -- Sub-function 3, read (document 01, "The calls"): bad store; 99; 9A; destination shorter than the blocks to copy (92, AL 3).
 --   readBlocks     k blocks into a destination of m bytes
 --   readKind       by the kind of the block: an unused one is copied by itself, the first of an update with all its blocks
---   readAnswer     the whole order
---   blocksRead     how many blocks an answer says were copied: none but for a read
---   readBytes      the destination afterwards: the blocks copied, and the bytes behind them as they were
+--   readPlan       the whole order: the blocks to copy, or the codes of the check that refuses
+--   readAnswer     the answer
+--   readBytes      the destination afterwards: the blocks copied, and the bytes behind them as they were; all as it was on a refusal
 use Prim.Native.Nat.{ℕ, _*_}
+use mathlib.Core.Bool.{false}
 use mathlib.Core.List.{List, _++_}
 use lib.ListN.{length, take, drop}
 use lib.Dec.{leb, ltb}
@@ -14,32 +15,38 @@ use Rattle.store_directory.specs.Scan.{storeOk}
 use Rattle.store_directory.specs.Kind.{kindAt}
 use Rattle.store_directory.specs.declared.kind.Kind.{Kind}
 use Rattle.store_directory.specs.declared.kind.Kind.the-variants.{Unused, First, Later}
+use Rattle.call_answers.specs.Codes.{SUCCESS, READ-FAILURE, UPDATE-NUM-INVALID, NOT-EMPTY, none, bad-store, short-destination}
 use Rattle.call_answers.specs.Answers.{refusal}
 use Rattle.call_answers.specs.declared.answer.Answer.{Answer}
-use Rattle.call_answers.specs.declared.answer.Answer.the-variants.{Presence, Written, Control, Read, Refused}
+use Rattle.call_answers.specs.declared.answer.Answer.the-variants.{Read}
+use Rattle.call_reads.specs.declared.read.ReadPlan.{ReadPlan}
+use Rattle.call_reads.specs.declared.read.ReadPlan.the-variants.{Copy, Refuse}
 
-unfoldable pub readBlocks : ℕ → ℕ → Answer
-readBlocks k m = unless (leb (k * 2048) m) (refusal 0x92 3) (Read (record { blocks = k }))
+unfoldable pub readBlocks : ℕ → ℕ → ReadPlan
+readBlocks k m = unless (leb (k * 2048) m) (Refuse READ-FAILURE short-destination) (Copy k)
 
-unfoldable pub readKind : Kind → ℕ → Answer
+unfoldable pub readKind : Kind → ℕ → ReadPlan
 readKind Unused m = readBlocks 1 m
 readKind (First k) m = readBlocks k m
-readKind Later m = refusal 0x9A 0
+readKind Later m = Refuse NOT-EMPTY none
 
-unfoldable pub readAnswer : List ℕ → ℕ → ℕ → Answer
-readAnswer s b m =
-    unless (storeOk s) (refusal 0x92 1)
-    (unless (ltb b (blockCount s)) (refusal 0x99 0)
+unfoldable pub readPlan : List ℕ → ℕ → ℕ → ReadPlan
+readPlan s b m =
+    unless (storeOk s) (Refuse READ-FAILURE bad-store)
+    (unless (ltb b (blockCount s)) (Refuse UPDATE-NUM-INVALID none)
     (readKind (kindAt s b) m))
 
-abbrev pub blocksRead : Answer → ℕ
-blocksRead (Presence a) = 0
-blocksRead (Written a) = 0
-blocksRead (Control a) = 0
-blocksRead (Read a) = a .blocks
-blocksRead (Refused a) = 0
+-- of a plan
+unfoldable pub answered : ReadPlan → Answer
+answered (Copy k) = Read (record { ah = SUCCESS; al = none; carry = false; blocks = k })
+answered (Refuse ah al) = refusal ah al
+
+unfoldable pub copied : List ℕ → ℕ → List ℕ → ReadPlan → List ℕ
+copied s b destination (Copy k) = take (k * 2048) (fromBlock s b) ++ drop (k * 2048) destination
+copied s b destination (Refuse ah al) = destination
+
+unfoldable pub readAnswer : List ℕ → ℕ → ℕ → Answer
+readAnswer s b m = answered (readPlan s b m)
 
 unfoldable pub readBytes : List ℕ → ℕ → List ℕ → List ℕ
-readBytes s b destination =
-    take (blocksRead (readAnswer s b (length destination)) * 2048) (fromBlock s b)
-    ++ drop (blocksRead (readAnswer s b (length destination)) * 2048) destination
+readBytes s b destination = copied s b destination (readPlan s b (length destination))

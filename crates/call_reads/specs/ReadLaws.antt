@@ -1,15 +1,17 @@
--- Laws of the read: the cases of the answer, and that what is copied fits, is there, and is at most 16 blocks.
---   kinds             the answer by the kind, as `search` takes it
+-- Laws of the read: the cases of the plan, and that what is copied fits, is there, and is at most 16 blocks.
+--   kinds             the plan by the kind, as `search` takes it
 --   read-bad, read-number, read-kind    the order of the codes
---   copied            the copy, as `search` takes it
+--   Copies, copies    what a plan to copy says
+--   copying           the copy, the answer and the destination afterwards, as `search` takes them
 use Prim.Native.Nat.{ℕ, _+_, _*_, _/_, _<_, _≤_}
-use mathlib.Core.Path.{_≡_, refl, _∙_}
+use mathlib.Core.Path.{_≡_, refl, sym, _∙_}
 use mathlib.Core.Bool.{Bool, true, false}
 use mathlib.Core.List.{List}
 use native.Mathlib.Omega.{arith}
 use lib.ListN.{length}
 use lib.Dec.{leb, ltb}
 use borrow.Author.Tests.{lt-ltb, le-ltb, leb-true}
+use Rattle.laws.specs.Orders.{impossible}
 use Rattle.laws.specs.Unless.{unless}
 use Rattle.bytes_copy.specs.Paste.{putAt, put-first}
 use Rattle.store_blocks.specs.Blocks.{blockCount, fromBlock}
@@ -20,111 +22,118 @@ use Rattle.store_directory.specs.StoreLaws.{directory-ok, directory-good}
 use Rattle.store_directory.specs.DirectoryLaws.{kind-law}
 use Rattle.store_directory.specs.declared.Directory.{Directory}
 use Rattle.store_blocks.specs.declared.slot.Slot.{Slot}
-use Rattle.store_blocks.specs.declared.slot.Slot.the-variants.{Unused, Update, Bad}
+use Rattle.store_blocks.specs.declared.slot.Slot.the-variants.{Unused as UnusedSlot, Update, Bad}
 use Rattle.store_directory.specs.declared.kind.Kind.{Kind}
 use Rattle.store_directory.specs.declared.kind.Kind.the-variants.{Unused, First, Later}
+use Rattle.call_answers.specs.Codes.{READ-FAILURE, UPDATE-NUM-INVALID, NOT-EMPTY, none, bad-store, short-destination}
 use Rattle.call_answers.specs.Answers.{refusal}
 use Rattle.call_answers.specs.declared.answer.Answer.{Answer}
-use Rattle.call_answers.specs.declared.answer.Answer.the-variants.{Read}
-use Rattle.call_reads.specs.Read.{readBlocks, readKind, readAnswer, blocksRead, readBytes}
+use Rattle.call_reads.specs.declared.read.ReadPlan.{ReadPlan}
+use Rattle.call_reads.specs.declared.read.ReadPlan.the-variants.{Copy, Refuse}
+use Rattle.call_reads.specs.Read.{readBlocks, readKind, readPlan, answered, copied, readAnswer, readBytes}
 
--- the answer by the kind, where r is the kind that a call gave
-module _ (r : Kind) (m : ℕ) (z : Answer) where
-  pub kind-free : r ≡ Unused → z ≡ readBlocks 1 m → z ≡ readKind r m
+-- the plan by the kind, where r is the kind that a call gave
+module _ (r : Kind) (m : ℕ) where
+  pub kind-unused : (z : ReadPlan) → r ≡ Unused → z ≡ readBlocks 1 m → z ≡ readKind r m
   unfolding readKind
-  kind-free h k = rw h k
+  kind-unused z h k = rw h k
 
-  pub kind-first : (j : ℕ) → r ≡ First j → z ≡ readBlocks j m → z ≡ readKind r m
+  pub kind-first : (z : ReadPlan) (j : ℕ) → r ≡ First j → z ≡ readBlocks j m → z ≡ readKind r m
   unfolding readKind
-  kind-first j h k = rw h k
+  kind-first z j h k = rw h k
 
-  pub kind-later : r ≡ Later → z ≡ refusal 0x9A 0 → z ≡ readKind r m
+  pub kind-later : r ≡ Later → Refuse NOT-EMPTY none ≡ readKind r m
   unfolding readKind
-  kind-later h k = rw h k
+  kind-later h = rw h
 
-pub ruleset kinds = (kind-free, kind-first, kind-later)
+pub ruleset kinds = (kind-unused, kind-first, kind-later)
 
 -- the whole order: d is the directory that was read
-module _ (s : List ℕ) (d : Directory) (b m : ℕ) (z : Answer) (e : d ≡ directory s) where
-  pub read-bad : d .ok ≡ false → z ≡ refusal 0x92 1 → z ≡ readAnswer s b m
-  unfolding readAnswer unless
-  read-bad h k = rw (← directory-ok s d e, h) k
+module _ (s : List ℕ) (d : Directory) (b m : ℕ) (e : d ≡ directory s) where
+  pub read-bad : d .ok ≡ false → Refuse READ-FAILURE bad-store ≡ readPlan s b m
+  unfolding readPlan unless
+  read-bad h = rw (← directory-ok s d e, h)
 
-  pub read-number : d .ok ≡ true → length s / 2048 ≤ b → z ≡ refusal 0x99 0 → z ≡ readAnswer s b m
-  unfolding readAnswer unless blockCount
-  read-number h l k = rw (← directory-ok s d e, h, le-ltb b (length s / 2048) l) k
+  pub read-number : d .ok ≡ true → length s / 2048 ≤ b → Refuse UPDATE-NUM-INVALID none ≡ readPlan s b m
+  unfolding readPlan unless blockCount
+  read-number h l = rw (← directory-ok s d e, h, le-ltb b (length s / 2048) l)
 
-  pub read-kind : (j : Kind) → d .ok ≡ true → b < length s / 2048 → j ≡ kindIn d b → z ≡ readKind j m → z ≡ readAnswer s b m
-  unfolding readAnswer unless blockCount
-  read-kind j h l k q =
+  pub read-kind : (z : ReadPlan) (j : Kind) → d .ok ≡ true → b < length s / 2048 → j ≡ kindIn d b → z ≡ readKind j m → z ≡ readPlan s b m
+  unfolding readPlan unless blockCount
+  read-kind z j h l k q =
       let ok = directory-good s d e h in
       q ∙ rw (k, kind-law s ok d e b l, ok, lt-ltb b (length s / 2048) l)
 
--- what is copied fits, is there, and is at most 16 blocks
-module _ (s : List ℕ) (b m : ℕ) where
-  blocks-fit : (k : ℕ) → blocksRead (readBlocks k m) * 2048 ≤ m
-  unfolding readBlocks unless
-  blocks-fit k = go (leb (k * 2048) m) refl
-    where
-      go : (t : Bool) → leb (k * 2048) m ≡ t → blocksRead (unless t (refusal 0x92 3) (Read (record { blocks = k }))) * 2048 ≤ m
-      go true e = leb-true (k * 2048) m e
-      go false e = omega arith
+-- a check t that refuses
+passed : (t : Bool) (ah al k : ℕ) (rest : ReadPlan) → unless t (Refuse ah al) rest ≡ Copy k → (t ≡ true) × (rest ≡ Copy k)
+unfolding unless
+passed true ah al k rest e = (refl, e)
+passed false ah al k rest e = absurd (impossible (cc))
 
-  blocks-few : (k : ℕ) → blocksRead (readBlocks k m) ≤ k
-  unfolding readBlocks unless
-  blocks-few k = go (leb (k * 2048) m)
-    where
-      go : (t : Bool) → blocksRead (unless t (refusal 0x92 3) (Read (record { blocks = k }))) ≤ k
-      go true = omega arith
-      go false = omega arith
+-- k blocks are copied into m bytes
+pub record Copies (s : List ℕ) (b m k : ℕ) : Type 0 where
+  -- they fit, are there, and are at most 16
+  pub fit : k * 2048 ≤ m
+  pub there : k * 2048 ≤ length (fromBlock s b)
+  pub few : k ≤ 16
 
-  kind-fits : (x : Kind) → blocksRead (readKind x m) * 2048 ≤ m
-  unfolding readKind
-  kind-fits Unused = blocks-fit 1
-  kind-fits (First k) = blocks-fit k
-  kind-fits Later = omega arith
+module _ (s : List ℕ) (b m k : ℕ) where
+  -- j blocks are wanted
+  wanted : (j : ℕ) → readBlocks j m ≡ Copy k → (j ≡ k) × (k * 2048 ≤ m)
+  unfolding readBlocks
+  wanted j e =
+      let x = passed (leb (j * 2048) m) READ-FAILURE short-destination k (Copy j) e in
+      let q : j ≡ k = cc (x .1) in
+      (q, rw q at (leb-true (j * 2048) m (x .0)))
 
-  kind-there : (t : Bool) (x : Slot) → slotAt s b ≡ x → (blocksRead (readKind (kindOf t x) m) * 2048 ≤ length (fromBlock s b)) × (blocksRead (readKind (kindOf t x) m) ≤ 16)
+  by-kind : (t : Bool) (x : Slot) → slotAt s b ≡ x → readKind (kindOf t x) m ≡ Copy k → Copies s b m k
   unfolding readKind slotAt
-  kind-there true Unused q = (omega (arith, blocks-few 1, unused-filled (fromBlock s b) q .0), omega (arith, blocks-few 1))
-  kind-there true (Update k) q = let z = slot-inside (fromBlock s b) k q in (omega (arith, blocks-few k, z .2), omega (arith, blocks-few k, z .1))
-  kind-there true Bad q = (omega arith, omega arith)
-  kind-there false x q = (omega arith, omega arith)
+  by-kind true UnusedSlot q e =
+      let w = wanted 1 e in
+      let u = unused-filled (fromBlock s b) q .0 in
+      record { fit = w .1; there = omega arith; few = omega arith }
+  by-kind true (Update j) q e =
+      let w = wanted j e in
+      let z = slot-inside (fromBlock s b) j q in
+      record { fit = w .1; there = rw (w .0) at (z .2); few = rw (w .0) at (z .1) }
+  by-kind true Bad q e = absurd (impossible (cc))
+  by-kind false x q e = absurd (impossible (cc))
 
-  pub read-fits : blocksRead (readAnswer s b m) * 2048 ≤ m
-  unfolding readAnswer unless
-  read-fits = go (storeOk s) (ltb b (blockCount s))
-    where
-      go : (t u : Bool) → blocksRead (unless t (refusal 0x92 1) (unless u (refusal 0x99 0) (readKind (kindAt s b) m))) * 2048 ≤ m
-      go true true = kind-fits (kindAt s b)
-      go true false = omega arith
-      go false u = omega arith
+  -- p is the plan that a call gave
+  pub copies : (p : ReadPlan) → p ≡ readPlan s b m → p ≡ Copy k → Copies s b m k
+  unfolding readPlan kindAt
+  copies p e h =
+      let f = sym e ∙ h in
+      let x = passed (storeOk s) READ-FAILURE bad-store k _ f in
+      let y = passed (ltb b (blockCount s)) UPDATE-NUM-INVALID none k _ (x .1) in
+      by-kind (begins s b) (slotAt s b) refl (y .1)
 
-  pub read-there : (blocksRead (readAnswer s b m) * 2048 ≤ length (fromBlock s b)) × (blocksRead (readAnswer s b m) ≤ 16)
-  unfolding readAnswer unless kindAt
-  read-there = go (storeOk s) (ltb b (blockCount s))
-    where
-      copied-by : Answer → Type 0
-      copied-by a = (blocksRead a * 2048 ≤ length (fromBlock s b)) × (blocksRead a ≤ 16)
-
-      go : (t u : Bool) → copied-by (unless t (refusal 0x92 1) (unless u (refusal 0x99 0) (readKind (kindOf (begins s b) (slotAt s b)) m)))
-      go true true = kind-there (begins s b) (slotAt s b) refl
-      go true false = (omega arith, omega arith)
-      go false u = (omega arith, omega arith)
-
--- the same of what calls answered
-module _ (s p : List ℕ) (b m : ℕ) (a : Answer) (k : ℕ) (e : a ≡ readAnswer s b m) (h : k ≡ blocksRead a) where
+-- what calls answered: p is the plan, x the store from the block on, r the destination afterwards
+module _ (s : List ℕ) (b m k : ℕ) (p : ReadPlan) (e : p ≡ readPlan s b m) (h : p ≡ Copy k) where
   pub copy-fits : 0 + k * 2048 ≤ m
-  copy-fits = rw (h, e) (omega (arith, read-fits s b m))
+  copy-fits = omega (arith, copies s b m k p e h .fit)
 
-  pub copy-there : p ≡ fromBlock s b → k * 2048 ≤ length p
-  copy-there q = rw (h, e, q) (read-there s b m .0)
+  pub copy-there : (x : List ℕ) → x ≡ fromBlock s b → k * 2048 ≤ length x
+  copy-there x q = rw q (copies s b m k p e h .there)
 
   pub copy-short : k * 2048 ≤ 32768
-  copy-short = rw (h, e) (omega (arith, read-there s b m .1))
+  copy-short = omega (arith, copies s b m k p e h .few)
 
-pub read-copied : (s d p r : List ℕ) (b k : ℕ) (a : Answer) → a ≡ readAnswer s b (length d) → k ≡ blocksRead a → p ≡ fromBlock s b → r ≡ putAt d 0 p (k * 2048) → r ≡ readBytes s b d
-unfolding readBytes
-read-copied s d p r b k a e h q c = c ∙ put-first d p (k * 2048) ∙ rw (h, e, q)
+  pub copy-answer : answered (Copy k) ≡ readAnswer s b m
+  unfolding readAnswer
+  copy-answer = rw (← e, h)
 
-pub ruleset copied = (copy-fits, copy-there, copy-short, read-copied)
+module _ (s d : List ℕ) (b : ℕ) (p : ReadPlan) (e : p ≡ readPlan s b (length d)) where
+  pub copy-bytes : (k : ℕ) (x r : List ℕ) → p ≡ Copy k → x ≡ fromBlock s b → r ≡ putAt d 0 x (k * 2048) → r ≡ readBytes s b d
+  unfolding readBytes copied
+  copy-bytes k x r h q c = c ∙ put-first d x (k * 2048) ∙ rw (q, ← e, h)
+
+  pub refuse-answer : (ah al : ℕ) (z : Answer) → p ≡ Refuse ah al → z ≡ refusal ah al → z ≡ readAnswer s b (length d)
+  unfolding readAnswer answered
+  refuse-answer ah al z h q = q ∙ rw (← e, h)
+
+  pub refuse-bytes : (ah al : ℕ) → p ≡ Refuse ah al → d ≡ readBytes s b d
+  unfolding readBytes copied
+  refuse-bytes ah al h = rw (← e, h)
+
+pub ruleset copying = (copy-fits, copy-there, copy-short, copy-answer, copy-bytes, refuse-answer, refuse-bytes)

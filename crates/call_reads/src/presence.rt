@@ -4,6 +4,7 @@ ghost use Rattle.call_reads.specs.Presence.{presenceAnswer};
 use call_answers::answer;
 use call_answers::answer::Answer;
 use call_answers::answer::Presence;
+use call_answers::code;
 
 pub fn presence(store: &[u8]) -> Answer
     ensures { λ r. ⌜ r ≡ presenceAnswer (now (store .entry)) ⌝ }
@@ -12,6 +13,9 @@ pub fn presence(store: &[u8]) -> Answer
     let ok = d.ok;
     if ok {
         Answer::Presence(Presence {
+            ah: code::SUCCESS,
+            al: code::NONE,
+            carry: false,
             byte0: b'I',
             byte1: b'N',
             byte2: b'T',
@@ -21,9 +25,9 @@ pub fn presence(store: &[u8]) -> Answer
             byte6: b'E',
             byte7: b'P',
             loader_version: 1,
-            blocks: (store.len() / 2048) as u32,
+            blocks: (store.len() / store_blocks::BLOCK) as u32,
         })
     } else {
-        answer::refuse(0x92, 1)
+        answer::refuse(code::READ_FAILURE, code::BAD_STORE)
     }
 }

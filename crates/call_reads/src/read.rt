@@ -1,61 +1,70 @@
 // Sub-function 3, read.
 ghost use mathlib.Core.Path.{_≡_};
 ghost use lib.ListN.{length};
-ghost use Rattle.call_reads.specs.Read.{readBlocks, readKind, readAnswer, blocksRead, readBytes};
+ghost use Rattle.call_reads.specs.Read.{readBlocks, readKind, readPlan, readAnswer, readBytes};
 use call_answers::answer;
 use call_answers::answer::Answer;
 use call_answers::answer::Read;
+use call_answers::code;
+use store_blocks::BLOCK;
 use store_directory::kind;
 use store_directory::kind::Kind;
 
+// What the checks of a read find.
+pub enum ReadPlan {
+    // so many blocks are to be copied
+    Copy { blocks: u32 },
+    // the codes of the check that refuses
+    Refuse { ah: u8, al: u8 },
+}
+
 // `k` blocks are to be copied into `lent` bytes.
-fn read_blocks(k: u32, lent: usize) -> Answer
+fn read_blocks(k: u32, lent: usize) -> ReadPlan
     ensures { λ r. ⌜ r ≡ readBlocks k lent ⌝ }
 {
-    if lent < k as usize * 2048 {
-        answer::refuse(0x92, 3)
+    if lent < k as usize * BLOCK {
+        ReadPlan::Refuse {
+            ah: code::READ_FAILURE,
+            al: code::SHORT_DESTINATION,
+        }
     } else {
-        Answer::Read(Read { blocks: k })
+        ReadPlan::Copy { blocks: k }
     }
 }
 
-fn read_kind(kind: Kind, lent: usize) -> Answer
+fn read_kind(kind: Kind, lent: usize) -> ReadPlan
     ensures { λ r. ⌜ r ≡ readKind kind lent ⌝ }
 {
     match kind {
         Kind::Unused => read_blocks(1, lent),
         Kind::First { blocks } => read_blocks(blocks, lent),
-        Kind::Later => answer::refuse(0x9A, 0),
+        Kind::Later => ReadPlan::Refuse {
+            ah: code::NOT_EMPTY,
+            al: code::NONE,
+        },
     }
 }
 
-// The answer, for a destination of `lent` bytes.
-fn read_answer(store: &[u8], block: u32, lent: usize) -> Answer
-    ensures { λ r. ⌜ r ≡ readAnswer (now (store .entry)) block lent ⌝ }
+// The checks in their order, for a destination of `lent` bytes.
+fn read_plan(store: &[u8], block: u32, lent: usize) -> ReadPlan
+    ensures { λ r. ⌜ r ≡ readPlan (now (store .entry)) block lent ⌝ }
 {
     let d = store_directory::read_store(store);
     let ok = d.ok;
     if ok {
-        if (block as usize) < store.len() / 2048 {
+        if (block as usize) < store.len() / BLOCK {
             read_kind(kind::block_kind(d, block), lent)
         } else {
-            answer::refuse(0x99, 0)
+            ReadPlan::Refuse {
+                ah: code::UPDATE_NUM_INVALID,
+                al: code::NONE,
+            }
         }
     } else {
-        answer::refuse(0x92, 1)
-    }
-}
-
-// How many blocks an answer says are copied.
-fn blocks_read(answer: Answer) -> u32
-    ensures { λ r. ⌜ r ≡ blocksRead answer ⌝ }
-{
-    match answer {
-        Answer::Presence(_) => 0,
-        Answer::Written(_) => 0,
-        Answer::Control(_) => 0,
-        Answer::Read(r) => r.blocks,
-        Answer::Refused(_) => 0,
+        ReadPlan::Refuse {
+            ah: code::READ_FAILURE,
+            al: code::BAD_STORE,
+        }
     }
 }
 
@@ -64,13 +73,18 @@ pub fn read(store: &[u8], block: u32, destination: &mut [u8]) -> Answer
     ensures answers { λ r. ⌜ r ≡ readAnswer (now (store .entry)) block (length (now (destination .entry))) ⌝ }
     ensures copies { λ r. ⌜ now (destination .exit) ≡ readBytes (now (store .entry)) block (now (destination .entry)) ⌝ }
 {
-    let answer = read_answer(store, block, destination.len());
-    let k = blocks_read(answer);
-    bytes_copy::put(
-        destination,
-        0,
-        store_blocks::from_block(store, block),
-        k as usize * 2048,
-    );
-    answer
+    let plan = read_plan(store, block, destination.len());
+    match plan {
+        ReadPlan::Copy { blocks } => {
+            let from = store_blocks::from_block(store, block);
+            bytes_copy::put(destination, 0, from, blocks as usize * BLOCK);
+            Answer::Read(Read {
+                ah: code::SUCCESS,
+                al: code::NONE,
+                carry: false,
+                blocks,
+            })
+        }
+        ReadPlan::Refuse { ah, al } => answer::refuse(ah, al),
+    }
 }

@@ -1,6 +1,6 @@
 -- The load choice (document 01, "Load choice").
 pub mod Load
+pub mod LoadBounds
 pub mod LoadLaws
+pub mod LoadBoundLaws
 pub mod DataLaws
-pub mod AfterWrite
-pub mod AfterWriteLaws

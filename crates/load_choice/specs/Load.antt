@@ -13,10 +13,11 @@ use lib.Dec.{leb, ltb}
 use Rattle.laws.specs.First.{firstBelow}
 use Rattle.laws.specs.Unless.{unless}
 use Rattle.update_header.specs.Fields.{revision}
+use Rattle.update_header.specs.DataPart.{dataPart}
 use Rattle.update_coverage.specs.Covers.{covers}
-use Rattle.update_view.specs.View.{dataPart}
 use Rattle.store_blocks.specs.Blocks.{fromBlock, blockCount}
 use Rattle.store_directory.specs.Scan.{first, storeOk}
+use Rattle.call_answers.specs.Codes.{READ-FAILURE, bad-store, bad-processors}
 use Rattle.call_answers.specs.declared.choice.LoadChoice.{LoadChoice}
 use Rattle.call_answers.specs.declared.choice.LoadChoice.the-variants.{Refused, Nothing, Chosen}
 
@@ -35,8 +36,8 @@ found s x p = chosenAt s (holder s x p)
 
 unfoldable pub loadChoice : Bool → List ℕ → ℕ → ℕ → LoadChoice
 loadChoice loading s x p =
-    unless (storeOk s) (Refused 0x92 1)
-    (unless (leb p 7) (Refused 0x92 2)
+    unless (storeOk s) (Refused READ-FAILURE bad-store)
+    (unless (leb p 7) (Refused READ-FAILURE bad-processors)
     (unless loading Nothing
     (found s x p)))
 

@@ -1,6 +1,7 @@
 -- Laws of the load choice.
 --   holder-one     in a valid store at most one update covers a processor: the holder is that one
 --   holder-none    where none covers it there is no holder
+--   choice-one, choice-none    in a valid store the update that covers the processor is chosen, and nothing where none covers it
 --   finding        the scan of the directory, as `search` takes it
 --   choose-bad .. choose-on    the order of the answers
 use Prim.Native.Nat.{ℕ, _+_, _<_, _≤_}
@@ -20,7 +21,8 @@ use Rattle.store_blocks.specs.Blocks.{fromBlock, blockCount}
 use Rattle.store_directory.specs.Scan.{first, storeOk, directory}
 use Rattle.store_directory.specs.StoreLaws.{directory-ok, directory-good}
 use Rattle.store_directory.specs.ValidLaws.{store-valid}
-use Rattle.store_directory.specs.DirectoryLaws.{startOf, listing}
+use Rattle.store_directory.specs.DirectoryEntries.{startOf}
+use Rattle.store_directory.specs.DirectoryLaws.{listing}
 use Rattle.store_directory.specs.declared.Directory.{Directory}
 use Rattle.load_choice.specs.Load.{holds, holder, chosenAt, found, loadChoice}
 use Rattle.call_answers.specs.declared.choice.LoadChoice.{LoadChoice}
@@ -92,3 +94,12 @@ module _ (s : List ℕ) (d : Directory) (loading : Bool) (x p : ℕ) (e : d ≡ 
     pub choose-on : (z : LoadChoice) → p ≤ 7 → loading ≡ true → z ≡ found s x p → z ≡ loadChoice loading s x p
     unfolding loadChoice unless
     choose-on z l k q = rw (← directory-ok s d e, h, le-leb p 7 l, k) q
+
+module _ (s : List ℕ) (ok : storeOk s ≡ true) (x p : ℕ) (l : p ≤ 7) where
+  pub choice-one : (b : ℕ) → b < blockCount s → first s b ≡ true → covers (fromBlock s b) x p ≡ true → loadChoice true s x p ≡ Chosen b (revision (fromBlock s b))
+  unfolding loadChoice found chosenAt unless
+  choice-one b m f h = rw (ok, le-leb p 7 l, holder-one s ok x p b m f h, lt-ltb b (blockCount s) m)
+
+  pub choice-none : ((b : ℕ) → b < blockCount s → first s b ≡ true → covers (fromBlock s b) x p ≡ false) → loadChoice true s x p ≡ Nothing
+  unfolding loadChoice found chosenAt unless
+  choice-none h = rw (ok, le-leb p 7 l, holder-none s ok x p h, le-ltb (blockCount s) (blockCount s) (omega arith))

@@ -4,9 +4,10 @@ ghost use mathlib.Core.Bool.{true};
 ghost use Rattle.store_directory.specs.Scan.{directory};
 ghost use Rattle.load_choice.specs.Load.{found, loadChoice, chosenData};
 use call_answers::choice::LoadChoice;
+use call_answers::code;
 use store_directory::Directory;
+use update_header::data::data_part;
 use update_header::fields;
-use update_view::parts;
 
 // The stored update that covers the processor, by the directory of the store.
 fn find(store: &[u8], d: Directory, signature: u32, platform: u32) -> LoadChoice
@@ -42,10 +43,16 @@ pub fn choose(loading: bool, store: &[u8], signature: u32, platform: u32) -> Loa
                 LoadChoice::Nothing
             }
         } else {
-            LoadChoice::Refused { ah: 0x92, al: 2 }
+            LoadChoice::Refused {
+                ah: code::READ_FAILURE,
+                al: code::BAD_PROCESSORS,
+            }
         }
     } else {
-        LoadChoice::Refused { ah: 0x92, al: 1 }
+        LoadChoice::Refused {
+            ah: code::READ_FAILURE,
+            al: code::BAD_STORE,
+        }
     }
 }
 
@@ -54,7 +61,7 @@ pub fn data_of(store: &[u8], choice: LoadChoice) -> &[u8]
     ensures { λ r. ⌜ now r ≡ chosenData (now (store .entry)) choice ⌝ }
 {
     match choice {
-        LoadChoice::Chosen { start, revision: _ } => parts::data_part(store_blocks::from_block(
+        LoadChoice::Chosen { start, revision: _ } => data_part(store_blocks::from_block(
             store,
             start,
         )),

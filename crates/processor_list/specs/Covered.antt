@@ -1,7 +1,7 @@
 -- Which listed processors an update covers, kept in an array of eight beside the list.
---   keepsBy               the update covers listed processor i, which the marks say the candidate doesn't
+--   neededByMarks               the update covers listed processor i, which the marks say the candidate doesn't
 --   Covered               the marks are right for all listed processors
---   one-is, keeping-is    from right marks to the definitions
+--   one-is, needed-by-is    from right marks to the definitions
 --   unmarked              the test of a mark, as `search` takes it
 use Prim.Native.Nat.{ℕ}
 use mathlib.Core.Path.{_≡_, _∙_}
@@ -10,23 +10,23 @@ use mathlib.Core.List.{List}
 use lib.ListN.{length}
 use Rattle.laws.specs.Below.{anyBelow, any-cong}
 use Rattle.laws.specs.Arrays.{Filled, markAt}
-use Rattle.processor_list.specs.Processors.{coversListed, coversOne, keepsListed, keeping}
+use Rattle.processor_list.specs.Processors.{ProcessorList, coversListed, coversOne, neededFor, isNeeded}
 
-unfoldable pub keepsBy : List ℕ → List ℕ → List Bool → List ℕ → ℕ → Bool
-keepsBy signatures platforms marks u i = coversListed signatures platforms u i && not (markAt marks i)
+unfoldable pub neededByMarks : ProcessorList → List Bool → List ℕ → ℕ → Bool
+neededByMarks list marks u i = coversListed list u i && not (markAt marks i)
 
 -- the marks are right for all listed processors
-abbrev pub Covered : List ℕ → List ℕ → List ℕ → List Bool → Type 0
-Covered signatures platforms cand marks = Filled false 8 (coversListed signatures platforms cand) (length signatures) marks
+abbrev pub Covered : ProcessorList → List ℕ → List Bool → Type 0
+Covered list cand marks = Filled false 8 (coversListed list cand) (length (list .signatures)) marks
 
-module _ (signatures platforms cand : List ℕ) (marks : List Bool) (right : Covered signatures platforms cand marks) where
-  pub one-is : (r : Bool) → r ≡ anyBelow (length signatures) (markAt marks) → r ≡ coversOne signatures platforms cand
+module _ (list : ProcessorList) (cand : List ℕ) (marks : List Bool) (right : Covered list cand marks) where
+  pub one-is : (r : Bool) → r ≡ anyBelow (length (list .signatures)) (markAt marks) → r ≡ coversOne list cand
   unfolding coversOne markAt
-  one-is r e = e ∙ any-cong (markAt marks) (coversListed signatures platforms cand) (length signatures) (λ k l. right .each k l)
+  one-is r e = e ∙ any-cong (markAt marks) (coversListed list cand) (length (list .signatures)) (λ k l. right .each k l)
 
-  pub keeping-is : (u : List ℕ) (r : Bool) → r ≡ anyBelow (length signatures) (keepsBy signatures platforms marks u) → r ≡ keeping signatures platforms cand u
-  unfolding keeping keepsListed keepsBy markAt
-  keeping-is u r e = e ∙ any-cong (keepsBy signatures platforms marks u) (keepsListed signatures platforms cand u) (length signatures) (λ k l. rw (right .each k l))
+  pub needed-by-is : (u : List ℕ) (r : Bool) → r ≡ anyBelow (length (list .signatures)) (neededByMarks list marks u) → r ≡ isNeeded list cand u
+  unfolding isNeeded neededFor neededByMarks markAt
+  needed-by-is u r e = e ∙ any-cong (neededByMarks list marks u) (neededFor list cand u) (length (list .signatures)) (λ k l. rw (right .each k l))
 
 -- r is what a call answered, m a mark
 module _ (r a m : Bool) (e : r ≡ a) where

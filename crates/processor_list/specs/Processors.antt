@@ -1,92 +1,62 @@
 -- The board's processor list (document 01, "The store"), and what it makes of a stored update.
+--   ProcessorList   signatures with platform numbers
+--   listOf          two lent slices as a list
 --   platformOk      platform number i is at most 7
 --   listOk          1 to 8 signatures with as many platform numbers, each at most 7
 --   Listed          the processor of signature x and platform p is listed: present, in the words of demand 3
 --   coversListed    the update covers listed processor i
 --   coversOne       the update covers some listed processor
---   keepsListed     the update covers listed processor i, and the candidate doesn't
---   keeping         the update covers a listed processor that the candidate doesn't cover
---   Keeps           the same in words; `keeps-law` joins the two
---   unshared-keeps  of an update that doesn't share: it covers some listed processor
+--   neededFor       the update covers listed processor i, and the candidate doesn't
+--   isNeeded        the update is needed: it covers a listed processor that the candidate doesn't cover
+--   Needed          the same in words; `needed-law` (NeededLaws) joins the two
 use Prim.Native.Nat.{ℕ, _<_}
-use mathlib.Core.Path.{_≡_, refl, sym, _∙_}
-use mathlib.Core.Bool.{Bool, true, false, not, _&&_, true≢false}
+use mathlib.Core.Path.{_≡_}
+use mathlib.Core.Bool.{Bool, true, false, not, _&&_}
 use mathlib.Core.List.{List}
-use mathlib.Core.Logic.{_↔_}
 use lib.ListN.{length, getD}
 use lib.Dec.{leb, eqb}
-use borrow.Author.Tests.{not-true}
-use Rattle.laws.specs.Bools.{and-parts, no-true}
-use Rattle.laws.specs.Below.{allBelow, anyBelow, any-at, any-stop, any-cong}
+use Rattle.laws.specs.Below.{allBelow, anyBelow}
 use Rattle.update_coverage.specs.Covers.{covers}
-use Rattle.update_sharing.specs.Shares.{shares}
-use Rattle.update_coverage.specs.CoverLaws.{covers-platform}
-use Rattle.update_sharing.specs.ShareLaws.{shares-law}
+
+pub record ProcessorList : Type 0 where
+  pub signatures : List ℕ
+  pub platforms : List ℕ
+
+abbrev pub listOf : List ℕ → List ℕ → ProcessorList
+listOf signatures platforms = record { signatures = signatures; platforms = platforms }
 
 -- platform number i is at most 7
 unfoldable pub platformOk : List ℕ → ℕ → Bool
 platformOk platforms i = leb (getD platforms i 0) 7
 
-unfoldable pub listOk : List ℕ → List ℕ → Bool
-listOk signatures platforms =
-    eqb (length signatures) (length platforms) && leb 1 (length signatures) && leb (length signatures) 8
-    && allBelow (length platforms) (platformOk platforms)
+unfoldable pub listOk : ProcessorList → Bool
+listOk list =
+    eqb (length (list .signatures)) (length (list .platforms)) && leb 1 (length (list .signatures)) && leb (length (list .signatures)) 8
+    && allBelow (length (list .platforms)) (platformOk (list .platforms))
 
-pub record Listed (signatures platforms : List ℕ) (x p : ℕ) : Type 0 where
+pub record Listed (list : ProcessorList) (x p : ℕ) : Type 0 where
   pub number : ℕ
-  pub within : number < length signatures
-  pub signature : getD signatures number 0 ≡ x
-  pub platform : getD platforms number 0 ≡ p
+  pub within : number < length (list .signatures)
+  pub signature : getD (list .signatures) number 0 ≡ x
+  pub platform : getD (list .platforms) number 0 ≡ p
 
 -- the update u covers listed processor i
-unfoldable pub coversListed : List ℕ → List ℕ → List ℕ → ℕ → Bool
-coversListed signatures platforms u i = covers u (getD signatures i 0) (getD platforms i 0)
+unfoldable pub coversListed : ProcessorList → List ℕ → ℕ → Bool
+coversListed list u i = covers u (getD (list .signatures) i 0) (getD (list .platforms) i 0)
 
-unfoldable pub coversOne : List ℕ → List ℕ → List ℕ → Bool
-coversOne signatures platforms u = anyBelow (length signatures) (coversListed signatures platforms u)
+unfoldable pub coversOne : ProcessorList → List ℕ → Bool
+coversOne list u = anyBelow (length (list .signatures)) (coversListed list u)
 
 -- the update u covers listed processor i, and the candidate doesn't
-unfoldable pub keepsListed : List ℕ → List ℕ → List ℕ → List ℕ → ℕ → Bool
-keepsListed signatures platforms cand u i = coversListed signatures platforms u i && not (coversListed signatures platforms cand i)
+unfoldable pub neededFor : ProcessorList → List ℕ → List ℕ → ℕ → Bool
+neededFor list cand u i = coversListed list u i && not (coversListed list cand i)
 
-unfoldable pub keeping : List ℕ → List ℕ → List ℕ → List ℕ → Bool
-keeping signatures platforms cand u = anyBelow (length signatures) (keepsListed signatures platforms cand u)
+unfoldable pub isNeeded : ProcessorList → List ℕ → List ℕ → Bool
+isNeeded list cand u = anyBelow (length (list .signatures)) (neededFor list cand u)
 
-pub record Keeps (signatures platforms cand u : List ℕ) : Type 0 where
+pub record Needed (list : ProcessorList) (cand u : List ℕ) : Type 0 where
   pub signature : ℕ
   pub platform : ℕ
-  pub listed : Listed signatures platforms signature platform
+  pub listed : Listed list signature platform
   pub covered : covers u signature platform ≡ true
   pub uncovered : covers cand signature platform ≡ false
-
-pub keeps-law : (signatures platforms cand u : List ℕ) → (keeping signatures platforms cand u ≡ true) ↔ Keeps signatures platforms cand u
-unfolding keeping keepsListed coversListed
-keeps-law signatures platforms cand u = (
-  λ h.
-      let i = any-at (keepsListed signatures platforms cand u) (length signatures) h in
-      let a = and-parts (coversListed signatures platforms u (i .0)) (not (coversListed signatures platforms cand (i .0))) (i .2) in
-      record {
-        signature = getD signatures (i .0) 0;
-        platform = getD platforms (i .0) 0;
-        listed = record { number = i .0; within = i .1; signature = refl; platform = refl };
-        covered = a .0;
-        uncovered = not-true _ (a .1);
-      },
-  λ k.
-      let l = k .listed in
-      any-stop (keepsListed signatures platforms cand u) (length signatures) (l .number) (l .within)
-      (rw (l .signature, l .platform, k .covered, k .uncovered)),
-)
-
--- a processor that u covers, where u and the candidate share none
-unshared-one : (cand u : List ℕ) (x p : ℕ) → shares u cand ≡ false → (t : Bool) → covers u x p ≡ t → t && not (covers cand x p) ≡ t
-unshared-one cand u x p h false e = refl
-unshared-one cand u x p h true e =
-    rw (no-true (covers cand x p) (λ c.
-    true≢false (sym (shares-law u cand .1 (record { signature = x; platform = p; processor = covers-platform u x p e; left = e; right = c })) ∙ h)))
-
-pub unshared-keeps : (signatures platforms cand u : List ℕ) → shares u cand ≡ false → keeping signatures platforms cand u ≡ coversOne signatures platforms u
-unfolding keeping keepsListed coversOne coversListed
-unshared-keeps signatures platforms cand u h =
-    any-cong (keepsListed signatures platforms cand u) (coversListed signatures platforms u) (length signatures)
-    (λ i l. unshared-one cand u (getD signatures i 0) (getD platforms i 0) h (covers u (getD signatures i 0) (getD platforms i 0)) refl)

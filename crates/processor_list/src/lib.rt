@@ -6,9 +6,9 @@ ghost use lib.ListN.{length};
 ghost use Rattle.update_header.specs.Fields.{dataSize};
 ghost use Rattle.update_coverage.specs.Covers.{pairCount};
 ghost use Rattle.laws.specs.Below.{anyBelow};
-ghost use Rattle.processor_list.specs.Processors.{platformOk, listOk, coversListed};
+ghost use Rattle.processor_list.specs.Processors.{listOf, platformOk, listOk, coversListed};
 ghost use Rattle.laws.specs.Arrays.{markAt};
-ghost use Rattle.processor_list.specs.Covered.{Covered, keepsBy};
+ghost use Rattle.processor_list.specs.Covered.{Covered, neededByMarks};
 use update_header::fields;
 
 fn platform_ok(platforms: &[u8], i: usize) -> bool
@@ -20,7 +20,7 @@ fn platform_ok(platforms: &[u8], i: usize) -> bool
 
 // 1 to 8 signatures with as many platform numbers, each at most 7.
 pub fn list_ok(signatures: &[u32], platforms: &[u8]) -> bool
-    ensures { λ r. ⌜ r ≡ listOk (now (signatures .entry)) (now (platforms .entry)) ⌝ }
+    ensures { λ r. ⌜ r ≡ listOk (listOf (now (signatures .entry)) (now (platforms .entry))) ⌝ }
 {
     if signatures.len() != platforms.len() {
         return false;
@@ -45,7 +45,7 @@ pub fn list_ok(signatures: &[u32], platforms: &[u8]) -> bool
 // Does the update cover listed processor `i`? `d` is the number of its data bytes and `n` that of its pairs.
 fn covers_listed(signatures: &[u32], platforms: &[u8], u: &[u8], d: u32, n: u32, i: usize) -> bool
     requires { ⌜ (i < length (now signatures)) × (i < length (now platforms)) × (d ≡ dataSize (now u)) × (n ≡ pairCount (now u)) ⌝ }
-    ensures { λ r. ⌜ r ≡ coversListed (now (signatures .entry)) (now (platforms .entry)) (now (u .entry)) i ⌝ }
+    ensures { λ r. ⌜ r ≡ coversListed (listOf (now (signatures .entry)) (now (platforms .entry))) (now (u .entry)) i ⌝ }
 {
     update_coverage::covers_with(u, d, n, signatures[i], bytes_dwords::wide(platforms[i]))
 }
@@ -53,7 +53,7 @@ fn covers_listed(signatures: &[u32], platforms: &[u8], u: &[u8], d: u32, n: u32,
 // Marks the listed processors that the candidate covers.
 pub fn covered(signatures: &[u32], platforms: &[u8], candidate: &[u8]) -> [bool; 8]
     requires { ⌜ (length (now signatures) ≤ 8) × (length (now signatures) ≡ length (now platforms)) ⌝ }
-    ensures { λ r. ⌜ Covered (now (signatures .entry)) (now (platforms .entry)) (now (candidate .entry)) r ⌝ }
+    ensures { λ r. ⌜ Covered (listOf (now (signatures .entry)) (now (platforms .entry))) (now (candidate .entry)) r ⌝ }
 {
     let d = fields::data_size(candidate);
     let n = update_coverage::pair_count(candidate);
@@ -81,7 +81,7 @@ pub fn covers_one(marks: [bool; 8], n: usize) -> bool
     false
 }
 
-fn keeps_by(
+fn needed_for(
     signatures: &[u32],
     platforms: &[u8],
     mark: bool,
@@ -91,7 +91,7 @@ fn keeps_by(
     i: usize,
 ) -> bool
     requires { ⌜ (i < length (now signatures)) × (i < length (now platforms)) × (d ≡ dataSize (now u)) × (n ≡ pairCount (now u)) ⌝ }
-    ensures { λ r. ⌜ r ≡ coversListed (now (signatures .entry)) (now (platforms .entry)) (now (u .entry)) i && not mark ⌝ }
+    ensures { λ r. ⌜ r ≡ coversListed (listOf (now (signatures .entry)) (now (platforms .entry))) (now (u .entry)) i && not mark ⌝ }
 {
     if covers_listed(signatures, platforms, u, d, n, i) {
         if mark { false } else { true }
@@ -101,7 +101,7 @@ fn keeps_by(
 }
 
 // Does the update cover a listed processor that is not marked?
-pub fn keeping(
+pub fn is_needed(
     signatures: &[u32],
     platforms: &[u8],
     marks: [bool; 8],
@@ -109,12 +109,14 @@ pub fn keeping(
     d: u32,
     n: u32,
 ) -> bool
-    requires { ⌜ (length (now signatures) ≤ 8) × (length (now signatures) ≡ length (now platforms)) × (d ≡ dataSize (now u)) × (n ≡ pairCount (now u)) ⌝ }
-    ensures { λ r. ⌜ r ≡ anyBelow (length (now (signatures .entry))) (keepsBy (now (signatures .entry)) (now (platforms .entry)) marks (now (u .entry))) ⌝ }
+    requires { ⌜ (length (now signatures) ≤ 8) × (length (now signatures) ≡ length (now platforms)) × (d ≡ dataSize (now u)) ×
+        (n ≡ pairCount (now u)) ⌝ }
+    ensures { λ r. ⌜ r ≡ anyBelow (length (now (signatures .entry))) (neededByMarks (listOf (now (signatures .entry))
+        (now (platforms .entry))) marks (now (u .entry))) ⌝ }
 {
     let mut i: usize = 0;
     while i < signatures.len() {
-        if keeps_by(signatures, platforms, marks[i], u, d, n, i) {
+        if needed_for(signatures, platforms, marks[i], u, d, n, i) {
             return true;
         }
         i += 1;

@@ -21,7 +21,7 @@ use Rattle.store_blocks.specs.Blocks.{blockCount, lengthOk}
 use Rattle.store_directory.specs.Scan.{storeOk, directory}
 use Rattle.store_directory.specs.StoreLaws.{directory-ok}
 use Rattle.store_directory.specs.ValidLaws.{store-valid}
-use Rattle.store_directory.specs.DirectoryLaws.{startOf, sizeOf}
+use Rattle.store_directory.specs.DirectoryEntries.{startOf, sizeOf}
 use Rattle.store_directory.specs.declared.Directory.{Directory}
 use Rattle.report_text.specs.Digits.{decimal}
 use Rattle.report_text.specs.Texts.{textRoom, noText, added}

@@ -16,7 +16,8 @@ use Rattle.update_coverage.specs.Platforms.{platformCount, lowestPlatform}
 use Rattle.store_blocks.specs.Blocks.{fromBlock}
 use Rattle.store_directory.specs.Scan.{storeOk, directory}
 use Rattle.store_directory.specs.ValidLaws.{store-valid}
-use Rattle.store_directory.specs.DirectoryLaws.{startOf, sizeOf, listing}
+use Rattle.store_directory.specs.DirectoryEntries.{startOf, sizeOf}
+use Rattle.store_directory.specs.DirectoryLaws.{listing}
 use Rattle.store_directory.specs.declared.Directory.{Directory}
 use Rattle.report_text.specs.Digits.{TwoDigits, hex8}
 use Rattle.report_text.specs.DigitLaws.{hex-long}

@@ -6,7 +6,7 @@
 --   endTo          the block behind the last of them
 use Prim.Native.Nat.{ℕ, zero, suc, _+_}
 use mathlib.Core.List.{List, [], _++_}
-use Rattle.store_directory.specs.DirectoryLaws.{startOf, sizeOf}
+use Rattle.store_directory.specs.DirectoryEntries.{startOf, sizeOf}
 use Rattle.store_directory.specs.declared.Directory.{Directory}
 use Rattle.report_catalogue.specs.Catalogue.{catalogueLine}
 

@@ -20,7 +20,8 @@ use Rattle.store_directory.specs.Kind.{kindAt}
 use Rattle.store_directory.specs.Valid.{Owned}
 use Rattle.store_directory.specs.BlockLaws.{later-blocks}
 use Rattle.store_directory.specs.LayoutLaws.{first-parts}
-use Rattle.store_directory.specs.DirectoryLaws.{startOf, sizeOf, Listing, listing, kind-free}
+use Rattle.store_directory.specs.DirectoryEntries.{startOf, sizeOf}
+use Rattle.store_directory.specs.DirectoryLaws.{Listing, listing, kind-free}
 use Rattle.store_directory.specs.declared.kind.Kind.the-variants.{Unused, First, Later}
 use Rattle.store_directory.specs.declared.Directory.{Directory}
 use Rattle.report_catalogue.specs.Catalogue.{kindLine, linesTo, unusedAt, unusedTo}

@@ -13,10 +13,8 @@ ghost use Rattle.report_catalogue.specs.Reported.{reported, reportedByte
 use report_text::Report;
 use report_text::Text;
 use report_text::give;
+use store_blocks::BLOCK;
 use store_directory::Directory;
-
-// The bytes of a block.
-const BLOCK: usize = 2048;
 
 // The text of a valid store of `n` blocks, whose directory `d` is. A block that no entry has is unused.
 fn listing(s: &[u8], d: Directory, n: u32) -> Text

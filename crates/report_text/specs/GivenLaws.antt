@@ -10,6 +10,7 @@ use lib.Seq.{length-take-le}
 use native.Mathlib.Omega.{arith}
 use lib.Dec.{leb}
 use borrow.Author.Tests.{le-leb, lt-leb}
+use Rattle.laws.specs.Orders.{impossible}
 use Rattle.laws.specs.Unless.{unless}
 use Rattle.bytes_copy.specs.Paste.{putAt, put-first}
 use Rattle.report_text.specs.Given.{given, givenBytes}
@@ -45,7 +46,7 @@ module _ (text out q : List ℕ) (r : Report) (n : ℕ) (e : r ≡ given text (l
     where
       go : (t : Bool) → Text n ≡ unless t (Short (length text)) (Text (length text)) → q ≡ unless t out (text ++ drop (length text) out) → n ≤ length q
       go true i j = let k : n ≡ length text = cc in rw j (omega (arith, length-append text (drop (length text) out)))
-      go false i j = absurd (let z : _≡_ {A = ℕ} 0 1 = cc in omega arith)
+      go false i j = absurd (impossible (cc))
 
   pub given-cut : n ≡ length (take n q)
   given-cut = sym (length-take-le n q given-inside)

@@ -2,7 +2,7 @@
 pub mod Digits
 pub mod Texts
 pub mod Given
-pub mod ListLaws
+pub mod TextListLaws
 pub mod DigitLaws
 pub mod TextLaws
 pub mod GivenLaws

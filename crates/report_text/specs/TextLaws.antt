@@ -15,7 +15,7 @@ use lib.ListN.{length, set, length-append}
 use lib.Seq.{take-length, take-append-seam, length-take-le}
 use Rattle.bytes_copy.specs.Paste.{putAt, put-start}
 use Rattle.report_text.specs.Texts.{textRoom, textOf, noText, added}
-use Rattle.report_text.specs.ListLaws.{put-one, put-both}
+use Rattle.report_text.specs.TextListLaws.{put-one, put-both}
 use Rattle.report_text.specs.declared.Text.{Text}
 
 pub added-none : (t : Text) → t ≡ added t []

@@ -1,34 +1,29 @@
 -- Blocks of 2,048 bytes, and bytes that are FFh (document 01, "The store").
+--   mostBlocks          the most blocks of a store
 --   fromBlock           the store from block b's first byte on
 --   blockCount          N, the number of blocks
 --   lengthOk            N from 1 to 32, and no other length
 --   isFF, filled        byte i + k is FFh; the n bytes from i on are
 --   unused              a block is unused if all its bytes are FFh
---   all-ff              the sum that tells whether bytes are all FFh, as `search` takes it
---   unused-no           the first byte tells that a block isn't unused
---   filled-local        bytes that are the same are filled alike
---   length-few, length-parts    what a right length says
-use Prim.Native.Nat.{ℕ, suc, _+_, _*_, _%_, _/_, _<_, _≤_}
-use mathlib.Core.Path.{_≡_, refl, sym, _∙_}
-use mathlib.Core.Bool.{Bool, true, false, _&&_, and-false}
+use Prim.Native.Nat.{ℕ, _+_, _*_, _%_, _/_}
+use mathlib.Core.Bool.{Bool, _&&_}
 use mathlib.Core.List.{List}
-use native.Mathlib.Omega.{arith}
-use native.Mathlib.Numerals.{add-one}
 use lib.ListN.{length, getD, drop}
 use lib.Dec.{leb, eqb}
-use borrow.Author.Tests.{eq-eqb, ne-eqb, eqb-true, eqb-false, leb-true}
-use Rattle.laws.specs.Bools.{and-parts}
-use Rattle.laws.specs.Below.{allBelow, all-stop, all-cong}
-use Rattle.laws.specs.Same.{Same}
+use Rattle.laws.specs.Below.{allBelow}
+use Rattle.update_sizes.specs.Sizes.{block}
+
+abbrev pub mostBlocks : ℕ
+mostBlocks = 32
 
 abbrev pub fromBlock : List ℕ → ℕ → List ℕ
-fromBlock s b = drop (b * 2048) s
+fromBlock s b = drop (b * block) s
 
 unfoldable pub blockCount : List ℕ → ℕ
-blockCount s = length s / 2048
+blockCount s = length s / block
 
 unfoldable pub lengthOk : ℕ → Bool
-lengthOk n = eqb (n % 2048) 0 && leb 1 (n / 2048) && leb (n / 2048) 32
+lengthOk n = eqb (n % block) 0 && leb 1 (n / block) && leb (n / block) mostBlocks
 
 unfoldable pub isFF : List ℕ → ℕ → ℕ → Bool
 isFF s i k = eqb (getD s (i + k) 0) 255
@@ -38,46 +33,4 @@ filled s i n = allBelow n (isFF s i)
 
 -- of the part from the block on
 unfoldable pub unused : List ℕ → Bool
-unused s = leb 2048 (length s) && filled s 0 2048
-
--- n bytes are FFh exactly if their sum is 255 n: a loop's start, its turn, where x is the byte read, and its end
-pub sum-none : (s : List ℕ) (i : ℕ) → eqb 0 (255 * 0) ≡ allBelow 0 (isFF s i)
-unfolding allBelow
-sum-none s i = refl
-
-pub sum-more : (s : List ℕ) (i k sum x : ℕ) → sum ≤ 255 * k → eqb sum (255 * k) ≡ allBelow k (isFF s i) → x ≡ getD s (i + k) 0 → x < 256 → eqb (sum + x) (255 * (k + 1)) ≡ allBelow (k + 1) (isFF s i)
-unfolding allBelow isFF
-sum-more s i k sum x l e q b = rw (add-one k, ← e, ← q) (go (eqb sum (255 * k)) refl (eqb x 255) refl)
-  where
-    go : (t : Bool) → eqb sum (255 * k) ≡ t → (u : Bool) → eqb x 255 ≡ u → eqb (sum + x) (255 * suc k) ≡ t && u
-    go true p true q = eq-eqb (sum + x) (255 * suc k) (let f = eqb-true sum (255 * k) p in let g = eqb-true x 255 q in omega arith)
-    go true p false q = ne-eqb (sum + x) (255 * suc k) (λ h. eqb-false x 255 q (let f = eqb-true sum (255 * k) p in omega arith))
-    go false p u q = ne-eqb (sum + x) (255 * suc k) (λ h. eqb-false sum (255 * k) p (omega arith))
-
-pub sum-end : (s : List ℕ) (i k n sum : ℕ) → k ≤ n → n ≤ k → eqb sum (255 * k) ≡ allBelow k (isFF s i) → eqb sum (255 * n) ≡ filled s i n
-unfolding filled
-sum-end s i k n sum l m e = let q : k ≡ n = omega arith in rw q at e
-
-pub ruleset all-ff = (sum-none, sum-more, sum-end)
-
--- the first byte tells
-pub unused-no : (s : List ℕ) (r : Bool) → r ≡ isFF s 0 0 → r ≡ false → false ≡ unused s
-unfolding unused filled
-unused-no s r e h = rw (all-stop (isFF s 0) 2048 0 (omega arith) (sym e ∙ h)) (sym (and-false (leb 2048 (length s))))
-
-pub filled-local : (s r : List ℕ) (m i n : ℕ) → Same s r m → i + n ≤ m → filled s i n ≡ filled r i n
-unfolding filled isFF
-filled-local s r m i n h l = all-cong (isFF s i) (isFF r i) n (λ k j. rw (h (i + k) (omega arith)))
-
-pub length-few : (n : ℕ) → lengthOk n ≡ true → n / 2048 ≤ 32
-unfolding lengthOk
-length-few n h = leb-true (n / 2048) 32 (and-parts (eqb (n % 2048) 0 && leb 1 (n / 2048)) (leb (n / 2048) 32) h .1)
-
--- what a right length says
-pub length-parts : (s : List ℕ) → lengthOk (length s) ≡ true → (length s ≡ blockCount s * 2048) × (1 ≤ blockCount s) × (blockCount s ≤ 32)
-unfolding lengthOk blockCount
-length-parts s h =
-    let x = and-parts (eqb (length s % 2048) 0 && leb 1 (length s / 2048)) (leb (length s / 2048) 32) h in
-    let y = and-parts (eqb (length s % 2048) 0) (leb 1 (length s / 2048)) (x .0) in
-    let z = eqb-true (length s % 2048) 0 (y .0) in
-    (omega arith, leb-true _ _ (y .1), leb-true _ _ (x .1))
+unused s = leb block (length s) && filled s 0 block

@@ -2,17 +2,13 @@
 --   fits         an update of t bytes fits in the remaining blocks, and bytes after t in its last block are FFh
 --   updateSlot   by the verdict on the bytes, of a block that isn't unused
 --   slotOf       unused; or a valid update must begin there, fit, and occupy ceiling(T / 2,048) blocks; anything else is bad
---   fitting      the cases of `fits`, as `search` takes them
---   slotting     the cases of `slotOf`, as `search` takes them
-use Prim.Native.Nat.{ℕ, _*_, _-_, _<_, _≤_}
-use mathlib.Core.Path.{_≡_}
-use mathlib.Core.Bool.{Bool, false, _&&_}
+use Prim.Native.Nat.{ℕ, _*_, _-_}
+use mathlib.Core.Bool.{Bool, _&&_}
 use mathlib.Core.List.{List}
 use lib.ListN.{length}
 use lib.Dec.{leb}
-use borrow.Author.Tests.{le-leb, lt-leb}
-use Rattle.laws.specs.Unless.{unless, checks}
-use Rattle.update_sizes.specs.Sizes.{blocksOf}
+use Rattle.laws.specs.Unless.{unless}
+use Rattle.update_sizes.specs.Sizes.{block, blocksOf}
 use Rattle.update_verdict.specs.Verdict.{verdict}
 use Rattle.update_verdict.specs.declared.Verdict.{Verdict}
 use Rattle.update_verdict.specs.declared.Verdict.the-variants.{Good, BadHeader, BadSum}
@@ -21,19 +17,7 @@ use Rattle.store_blocks.specs.declared.slot.Slot.{Slot}
 use Rattle.store_blocks.specs.declared.slot.Slot.the-variants.{Unused, Update, Bad}
 
 unfoldable pub fits : List ℕ → ℕ → Bool
-fits s t = leb (blocksOf t * 2048) (length s) && filled s t (blocksOf t * 2048 - t)
-
--- k is the local that holds the number of blocks
-module _ (s : List ℕ) (t k : ℕ) (e : k ≡ blocksOf t) where
-  pub fits-yes : (r : Bool) → k * 2048 ≤ length s → r ≡ filled s t (k * 2048 - t) → r ≡ fits s t
-  unfolding fits
-  fits-yes r l h = rw (← e, le-leb (k * 2048) (length s) l) h
-
-  pub fits-no : length s < k * 2048 → false ≡ fits s t
-  unfolding fits
-  fits-no l = rw (← e, lt-leb (k * 2048) (length s) l)
-
-pub ruleset fitting = (fits-yes, fits-no)
+fits s t = leb (blocksOf t * block) (length s) && filled s t (blocksOf t * block - t)
 
 unfoldable pub updateSlot : List ℕ → Verdict → Slot
 updateSlot s (Good t d n k) = unless (fits s t) Bad (Update k)
@@ -42,19 +26,3 @@ updateSlot s BadSum = Bad
 
 unfoldable pub slotOf : List ℕ → Slot
 slotOf s = unless (unused s) (updateSlot s (verdict s)) Unused
-
--- r is what a call answered, of which it ensures that it is v
-module _ (s : List ℕ) (r v : Verdict) (e : r ≡ v) where
-  pub slot-good : (t d n k : ℕ) (z : Slot) → r ≡ Good t d n k → z ≡ unless (fits s t) Bad (Update k) → z ≡ updateSlot s v
-  unfolding updateSlot
-  slot-good t d n k z h g = rw (← e, h) g
-
-  pub slot-header : r ≡ BadHeader → Bad ≡ updateSlot s v
-  unfolding updateSlot
-  slot-header h = rw (← e, h)
-
-  pub slot-sum : r ≡ BadSum → Bad ≡ updateSlot s v
-  unfolding updateSlot
-  slot-sum h = rw (← e, h)
-
-pub ruleset slotting = (checks, slot-good, slot-header, slot-sum)

@@ -2,9 +2,15 @@
 pub mod slot;
 
 ghost use mathlib.Core.Path.{_≡_};
-ghost use Prim.Native.Nat.{_+_, _≤_, _<_};
+ghost use Prim.Native.Nat.{_+_, _%_, _≤_, _<_};
 ghost use lib.ListN.{length};
 ghost use Rattle.store_blocks.specs.Blocks.{isFF, filled, unused, fromBlock, lengthOk};
+pub use update_sizes::BLOCK;
+
+// The most blocks of a store.
+pub const MOST_BLOCKS: usize = 32;
+// Four bytes of FFh.
+const ALL_FF: u32 = 0xFFFF_FFFF;
 
 fn is_ff(s: &[u8], i: usize, k: usize) -> bool
     requires { ⌜ i + k < length (now s) ⌝ }
@@ -13,27 +19,29 @@ fn is_ff(s: &[u8], i: usize, k: usize) -> bool
     s[i + k] == 255
 }
 
-// Are the `n` bytes from `i` on FFh? They are exactly if they sum to 255 n, and a sum is quicker than a test of each.
+// Are the `n` bytes from `i` on FFh, whole dwords? They are exactly if the `and` of the dwords is FFFFFFFFh, and that is quicker than a
+// test of each.
 pub fn filled(s: &[u8], i: usize, n: usize) -> bool
-    requires { ⌜ (i + n ≤ length (now s)) × (n ≤ 2048) ⌝ }
+    requires { ⌜ (i + n ≤ length (now s)) × (n ≤ 2048) × (n % 4 ≡ 0) ⌝ }
     ensures { λ r. ⌜ r ≡ filled (now (s .entry)) i n ⌝ }
 {
-    let mut sum: u32 = 0;
-    let mut k: usize = 0;
-    while k < n {
-        sum += bytes_dwords::wide(s[i + k]);
+    let dwords = (n / 4) as u32;
+    let mut all: u32 = ALL_FF;
+    let mut k: u32 = 0;
+    while k < dwords {
+        all = all & bytes_dwords::dword_inside(s, i + 4 * k as usize);
         k += 1;
     }
-    sum as usize == 255 * n
+    all == ALL_FF
 }
 
 // Is the first block of the part unused? The first byte tells for all but an unused one.
 pub fn unused(s: &[u8]) -> bool
     ensures { λ r. ⌜ r ≡ unused (now (s .entry)) ⌝ }
 {
-    if 2048 <= s.len() {
+    if BLOCK <= s.len() {
         if is_ff(s, 0, 0) {
-            filled(s, 0, 2048)
+            filled(s, 0, BLOCK)
         } else {
             false
         }
@@ -46,7 +54,7 @@ pub fn unused(s: &[u8]) -> bool
 pub fn from_block(s: &[u8], b: u32) -> &[u8]
     ensures { λ r. ⌜ now r ≡ fromBlock (now (s .entry)) b ⌝ }
 {
-    let at = b as usize * 2048;
+    let at = b as usize * BLOCK;
     if at <= s.len() { &s[at..] } else { &s[..0] }
 }
 
@@ -61,11 +69,11 @@ pub fn from_start(s: &[u8], start: u8) -> &[u8]
 pub fn length_ok(n: usize) -> bool
     ensures { λ r. ⌜ r ≡ lengthOk n ⌝ }
 {
-    if n % 2048 != 0 {
+    if n % BLOCK != 0 {
         return false;
     }
-    if n / 2048 < 1 {
+    if n / BLOCK < 1 {
         return false;
     }
-    n / 2048 <= 32
+    n / BLOCK <= MOST_BLOCKS
 }

@@ -1,8 +1,9 @@
 // What stands at a block.
 ghost use mathlib.Core.Path.{_≡_};
-ghost use Prim.Native.Nat.{_*_};
+ghost use Prim.Native.Nat.{_%_};
 ghost use Rattle.update_sizes.specs.Sizes.{blocksOf};
 ghost use Rattle.store_blocks.specs.Slot.{fits, slotOf};
+use crate::BLOCK;
 use crate::filled;
 use crate::unused;
 use update_verdict::Verdict;
@@ -17,11 +18,11 @@ pub enum Slot {
 
 // An update of `t` bytes in `k` blocks fits in the part, and the rest of its last block is FFh.
 fn fits(s: &[u8], t: u32, k: u32) -> bool
-    requires { ⌜ k ≡ blocksOf t ⌝ }
+    requires { ⌜ (k ≡ blocksOf t) × (t % 4 ≡ 0) ⌝ }
     ensures { λ r. ⌜ r ≡ fits (now (s .entry)) t ⌝ }
 {
     let size = t as usize;
-    let end = k as usize * 2048;
+    let end = k as usize * BLOCK;
     if end <= s.len() {
         filled(s, size, end - size)
     } else {

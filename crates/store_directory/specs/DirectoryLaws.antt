@@ -1,5 +1,4 @@
 -- What the directory of a valid store lists: the laws by which the layers above use it.
---   startOf, sizeOf    first block and size of entry i
 --   Listing      each entry is a stored update, in order; each stored update is an entry
 --   listing      of the directory of a valid store
 --   kind-free    a block that no update owns is free
@@ -30,13 +29,7 @@ use Rattle.store_blocks.specs.declared.slot.Slot.{Slot}
 use Rattle.store_blocks.specs.declared.slot.Slot.the-variants.{Unused, Update, Bad}
 use Rattle.store_directory.specs.declared.kind.Kind.the-variants as kinds
 use Rattle.store_directory.specs.declared.Directory.{Directory}
-
--- the first block of entry i, and its size
-abbrev pub startOf : Directory → ℕ → ℕ
-startOf d i = getD (d .starts) i 0
-
-abbrev pub sizeOf : Directory → ℕ → ℕ
-sizeOf d i = getD (d .sizes) i 0
+use Rattle.store_directory.specs.DirectoryEntries.{startOf, sizeOf}
 
 pub record Listing (s : List ℕ) (d : Directory) : Type 0 where
   pub few : d .count ≤ 32

@@ -8,7 +8,7 @@ use mathlib.Core.Bool.{Bool, true, false}
 use mathlib.Core.List.{List}
 use mathlib.Core.Logic.{⊎-elim}
 use native.Mathlib.Omega.{arith}
-use Rattle.laws.specs.Orders.{le-or-lt}
+use Rattle.laws.specs.Orders.{le-or-lt, impossible}
 use Rattle.store_directory.specs.Scan.{slotAt, begins, first}
 use Rattle.store_directory.specs.Kind.{kindOf, kindAt}
 use Rattle.store_directory.specs.Valid.{Owned}
@@ -18,10 +18,10 @@ use Rattle.store_blocks.specs.declared.slot.Slot.the-variants.{Unused, Update, 
 use Rattle.store_directory.specs.declared.kind.Kind.the-variants.{Unused as UnusedBlock, First}
 
 pub first-update : (t : Bool) (x : Slot) (k : ℕ) → kindOf t x ≡ First k → x ≡ Update k
-first-update true Unused k e = absurd (let z : _≡_ {A = ℕ} 0 1 = cc in omega arith)
+first-update true Unused k e = absurd (impossible (cc))
 first-update true (Update j) k e = cc
-first-update true Bad k e = absurd (let z : _≡_ {A = ℕ} 0 1 = cc in omega arith)
-first-update false x k e = absurd (let z : _≡_ {A = ℕ} 0 1 = cc in omega arith)
+first-update true Bad k e = absurd (impossible (cc))
+first-update false x k e = absurd (impossible (cc))
 
 module _ (s : List ℕ) (c : ℕ) (h : kindAt s c ≡ UnusedBlock) where
   pub free-parts : (begins s c ≡ true) × (slotAt s c ≡ Unused)
@@ -30,9 +30,9 @@ module _ (s : List ℕ) (c : ℕ) (h : kindAt s c ≡ UnusedBlock) where
     where
       go : (t : Bool) → begins s c ≡ t → (x : Slot) → slotAt s c ≡ x → kindOf t x ≡ UnusedBlock → (begins s c ≡ true) × (slotAt s c ≡ Unused)
       go true p Unused q k = (p, q)
-      go true p (Update j) q k = absurd (let z : _≡_ {A = ℕ} 0 1 = cc in omega arith)
-      go true p Bad q k = absurd (let z : _≡_ {A = ℕ} 0 1 = cc in omega arith)
-      go false p x q k = absurd (let z : _≡_ {A = ℕ} 0 1 = cc in omega arith)
+      go true p (Update j) q k = absurd (impossible (cc))
+      go true p Bad q k = absurd (impossible (cc))
+      go false p x q k = absurd (impossible (cc))
 
   pub free-unowned : (b : ℕ) → Owned s (first s) b c → ⊥
   free-unowned b o =

@@ -59,7 +59,7 @@ module _ (s : List ℕ) (n : ℕ) (u : ℕ → Bool) (y : Layout s n u) where
   block-read b l (cut p o) = go (u b) refl (y .full b l)
     where
       go : (t : Bool) → u b ≡ t → (single (slotAt s b) ≡ true) ⊎ ((a : ℕ) × Owned s u a b) → BlockRead b
-      go true q w = let k = y .held b l q in leads (k .0) p o q (k .1)
+      go true q w = let k = y .stored b l q in leads (k .0) p o q (k .1)
       go false q (inl w) = blank p o q w
       go false q (inr w) =
           ⊎-elim (λ e. absurd (true≢false (sym (w .1 .at) ∙ ap u e ∙ q)))
@@ -154,7 +154,7 @@ module _ (s : List ℕ) where
   unfolding sound first
   scan-layout n h =
       record {
-        held = λ b l f. first-parts b f .1;
+        stored = λ b l f. first-parts b f .1;
         order = λ b c l m f g. begins-outside b c l f (first-parts c g .0);
         full = λ c l. let a = home c in go c (a .0) (a .1) (a .2) (a .3) (slotAt s (a .0)) refl (all-at (sound s) n (a .0) h (omega (arith, a .2)));
       }

@@ -14,6 +14,7 @@ use native.Mathlib.Omega.{arith}
 use lib.ListN.{length, getD, length-drop}
 use lib.Dec.{leb}
 use borrow.Author.Tests.{leb-true, le-leb, eqb-true}
+use Rattle.laws.specs.Orders.{impossible}
 use Rattle.laws.specs.Bools.{and-parts, and-made, no-true}
 use Rattle.laws.specs.Below.{all-at}
 use Rattle.laws.specs.Unless.{unless}
@@ -27,7 +28,8 @@ use Rattle.update_verdict.specs.VerdictLocal.{verdict-local}
 use Rattle.update_sharing.specs.SharingLocal.{covers-local, Alike}
 use Rattle.update_verdict.specs.declared.Verdict.{Verdict}
 use Rattle.update_verdict.specs.declared.Verdict.the-variants.{Good, BadHeader, BadSum}
-use Rattle.store_blocks.specs.Blocks.{isFF, filled, unused, fromBlock, filled-local}
+use Rattle.store_blocks.specs.Blocks.{isFF, filled, unused, fromBlock}
+use Rattle.store_blocks.specs.FilledLaws.{filled-local}
 use Rattle.store_blocks.specs.Slot.{fits, updateSlot, slotOf}
 use Rattle.store_directory.specs.Scan.{slotAt, slotSize, isUpdate, isBad, single}
 use Rattle.store_blocks.specs.declared.slot.Slot.{Slot}
@@ -49,13 +51,13 @@ slotted s k e = go (unused s) (verdict s) refl e
     inner t d n j v true q e =
         let b : j ≡ k = cc in
         record { total = t; «data» = d; entries = n; good = v ∙ rw b; blocks = sym b ∙ judged s t d n j v .blocks; fit = q }
-    inner t d n j v false q e = absurd (let z : _≡_ {A = ℕ} 0 1 = cc in omega arith)
+    inner t d n j v false q e = absurd (impossible (cc))
 
     go : (f : Bool) (c : Verdict) → verdict s ≡ c → unless f (updateSlot s c) Unused ≡ Update k → Slotted s k
-    go true c v e = absurd (let z : _≡_ {A = ℕ} 0 1 = cc in omega arith)
+    go true c v e = absurd (impossible (cc))
     go false (Good t d n j) v e = inner t d n j v (fits s t) refl e
-    go false BadHeader v e = absurd (let z : _≡_ {A = ℕ} 0 1 = cc in omega arith)
-    go false BadSum v e = absurd (let z : _≡_ {A = ℕ} 0 1 = cc in omega arith)
+    go false BadHeader v e = absurd (impossible (cc))
+    go false BadSum v e = absurd (impossible (cc))
 
 fits-parts : (s : List ℕ) (t : ℕ) → fits s t ≡ true → (blocksOf t * 2048 ≤ length s) × (filled s t (blocksOf t * 2048 - t) ≡ true)
 unfolding fits
@@ -120,14 +122,14 @@ unused-filled s e =
     (leb-true 2048 (length s) (a .0), a .1)
   where
     inner : (f : Bool) (j : ℕ) → unless f Bad (Update j) ≡ Unused → false ≡ true
-    inner true j e = absurd (let z : _≡_ {A = ℕ} 0 1 = cc in omega arith)
-    inner false j e = absurd (let z : _≡_ {A = ℕ} 0 1 = cc in omega arith)
+    inner true j e = absurd (impossible (cc))
+    inner false j e = absurd (impossible (cc))
 
     go : (f : Bool) (c : Verdict) → unless f (updateSlot s c) Unused ≡ Unused → f ≡ true
     go true c e = refl
     go false (Good t d n k) e = inner (fits s t) k e
-    go false BadHeader e = absurd (let z : _≡_ {A = ℕ} 0 1 = cc in omega arith)
-    go false BadSum e = absurd (let z : _≡_ {A = ℕ} 0 1 = cc in omega arith)
+    go false BadHeader e = absurd (impossible (cc))
+    go false BadSum e = absurd (impossible (cc))
 
 -- another list that is the same as far as an update's blocks go
 module _ (s r : List ℕ) (k : ℕ) (slot : slotOf s ≡ Update k) (same : Same s r (k * 2048)) (long : k * 2048 ≤ length r) where

@@ -14,7 +14,8 @@ use native.Mathlib.Omega.{arith}
 use lib.ListN.{length, getD, replicate, List·getD-append}
 use Rattle.laws.specs.Bools.{and-parts}
 use Rattle.laws.specs.Below.{allBelow, any-cong}
-use Rattle.store_blocks.specs.Blocks.{blockCount, lengthOk, length-parts}
+use Rattle.store_blocks.specs.Blocks.{blockCount, lengthOk}
+use Rattle.store_blocks.specs.LengthLaws.{length-parts}
 use Rattle.store_directory.specs.Scan.{sound, startsTo, pad, badStore, listed, scanned, clashAt, clashRow, clash, apart, storeOk, directory}
 use Rattle.store_directory.specs.BlockLaws.{few-starts}
 use Rattle.store_directory.specs.declared.Directory.{Directory}

@@ -21,7 +21,7 @@ pub record Owned (s : List ℕ) (u : ℕ → Bool) (b c : ℕ) : Type 0 where
 
 pub record Layout (s : List ℕ) (n : ℕ) (u : ℕ → Bool) : Type 0 where
   -- a valid update begins at each block of u, and fits in the remaining blocks
-  pub held : (b : ℕ) → b < n → u b ≡ true → (k : ℕ) × (slotAt s b ≡ Update k)
+  pub stored : (b : ℕ) → b < n → u b ≡ true → (k : ℕ) × (slotAt s b ≡ Update k)
   -- none begins before the one before it has ended
   pub order : (b c : ℕ) → b < c → c < n → u b ≡ true → u c ≡ true → b + sizeAt s b ≤ c
   -- every block is unused or belongs to one of them

@@ -18,7 +18,8 @@ use Rattle.laws.specs.Below.{any-fails, any-false}
 use Rattle.laws.specs.Orders.{le-or-lt}
 use Rattle.update_sharing.specs.Shares.{shares}
 use Rattle.update_sharing.specs.ShareLaws.{shares-law}
-use Rattle.store_blocks.specs.Blocks.{fromBlock, blockCount, lengthOk, length-parts}
+use Rattle.store_blocks.specs.Blocks.{fromBlock, blockCount, lengthOk}
+use Rattle.store_blocks.specs.LengthLaws.{length-parts}
 use Rattle.store_directory.specs.Scan.{first, startsTo, clashAt, clashRow, clash, apart, storeOk, directory}
 use Rattle.store_directory.specs.Valid.{Valid, ValidStore}
 use Rattle.store_directory.specs.StoreLaws.{store-parts, directory-good}

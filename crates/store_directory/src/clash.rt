@@ -2,18 +2,19 @@
 ghost use mathlib.Core.Path.{_≡_};
 ghost use Prim.Native.Nat.{_≤_};
 ghost use Rattle.store_directory.specs.Scan.{clash};
+use store_blocks::MOST_BLOCKS;
 use update_header::fields;
 
 // Do two of the updates that begin at the first `count` blocks of `starts` cover a common processor? The sizes of each are read once.
-pub fn clash(s: &[u8], starts: [u8; 32], count: usize) -> bool
+pub fn clash(s: &[u8], starts: [u8; MOST_BLOCKS], count: usize) -> bool
     requires { ⌜ count ≤ 32 ⌝ }
     ensures { λ r. ⌜ r ≡ clash (now (s .entry)) starts count ⌝ }
 {
     if count < 2 {
         return false;
     }
-    let mut data = [0u32; 32];
-    let mut pairs = [0u32; 32];
+    let mut data = [0u32; MOST_BLOCKS];
+    let mut pairs = [0u32; MOST_BLOCKS];
     let mut found = false;
     let mut i: usize = 0;
     'scan: while i < count {

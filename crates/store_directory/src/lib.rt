@@ -6,6 +6,7 @@ mod scan;
 
 ghost use mathlib.Core.Path.{_≡_};
 ghost use Rattle.store_directory.specs.Scan.{badStore, directory};
+use store_blocks::MOST_BLOCKS;
 
 pub struct Directory {
     // the store is valid
@@ -13,8 +14,8 @@ pub struct Directory {
     // how many updates it holds
     pub count: usize,
     // the first block of each, and how many blocks each has
-    pub starts: [u8; 32],
-    pub sizes: [u8; 32],
+    pub starts: [u8; MOST_BLOCKS],
+    pub sizes: [u8; MOST_BLOCKS],
 }
 
 // No updates: the store is bad.
@@ -24,8 +25,8 @@ pub fn bad_store() -> Directory
     Directory {
         ok: false,
         count: 0,
-        starts: [0; 32],
-        sizes: [0; 32],
+        starts: [0; MOST_BLOCKS],
+        sizes: [0; MOST_BLOCKS],
     }
 }
 
@@ -34,7 +35,7 @@ pub fn read_store(s: &[u8]) -> Directory
     ensures { λ r. ⌜ r ≡ directory (now (s .entry)) ⌝ }
 {
     if store_blocks::length_ok(s.len()) {
-        let d = scan::scan(s, s.len() / 2048);
+        let d = scan::scan(s, s.len() / store_blocks::BLOCK);
         let ok = d.ok;
         if ok {
             let starts = d.starts;

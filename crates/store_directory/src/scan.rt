@@ -4,6 +4,7 @@ ghost use Prim.Native.Nat.{_≤_};
 ghost use Rattle.store_directory.specs.Scan.{scanned};
 use crate::Directory;
 use crate::bad_store;
+use store_blocks::MOST_BLOCKS;
 use store_blocks::slot;
 use store_blocks::slot::Slot;
 
@@ -12,8 +13,8 @@ pub fn scan(s: &[u8], n: usize) -> Directory
     requires { ⌜ n ≤ 32 ⌝ }
     ensures { λ r. ⌜ r ≡ scanned (now (s .entry)) n ⌝ }
 {
-    let mut starts = [0u8; 32];
-    let mut sizes = [0u8; 32];
+    let mut starts = [0u8; MOST_BLOCKS];
+    let mut sizes = [0u8; MOST_BLOCKS];
     let mut count: usize = 0;
     let mut next: usize = 0;
     let mut b: usize = 0;

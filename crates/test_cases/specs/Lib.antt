@@ -1,2 +1,3 @@
 -- The starred cases of document 01.
 pub mod Starred
+pub mod StarredLaws

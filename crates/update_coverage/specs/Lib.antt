@@ -4,3 +4,4 @@ pub mod PairLaws
 pub mod CoverLaws
 pub mod CoverageOtherData
 pub mod Platforms
+pub mod PlatformLaws

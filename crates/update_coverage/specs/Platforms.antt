@@ -1,19 +1,10 @@
 -- "How many platforms the header flags name, and the lowest platform (8 if none)" (document 01, "The catalogue").
 --   platformCount     how many platforms from 0 to 7 the header's flags name
 --   lowestPlatform    the lowest of them, 8 where there is none
---   ones-count, zeros-first    the ones and the trailing zeros of the flags that count are these numbers
-use Prim.Native.Nat.{ℕ, _<_}
-use mathlib.Core.Path.{_≡_, refl}
-use mathlib.Core.Bool.{Bool, true}
+use Prim.Native.Nat.{ℕ}
 use mathlib.Core.List.{List}
-use native.Mathlib.Omega.{arith}
-use lib.Dec.{eqb}
-use lib.Count.{ones, onesIn, trailingZeros}
-use borrow.Author.Tests.{eqb-true}
-use Rattle.laws.specs.Below.{allBelow, all-at}
 use Rattle.laws.specs.Count.{countBelow}
 use Rattle.laws.specs.First.{firstBelow}
-use Rattle.laws.specs.LowByte.{bit}
 use Rattle.update_coverage.specs.Covers.{platformsAt, names}
 
 unfoldable pub platformCount : List ℕ → ℕ
@@ -21,31 +12,3 @@ platformCount s = countBelow 8 (names (platformsAt s 0))
 
 unfoldable pub lowestPlatform : List ℕ → ℕ
 lowestPlatform s = firstBelow 8 (names (platformsAt s 0))
-
-onesRight : ℕ → Bool
-onesRight f = eqb (ones f) (countBelow 8 (names f))
-
-zerosRight : ℕ → Bool
-zerosRight f = eqb (trailingZeros 8 f) (firstBelow 8 (names f))
-
-ones-table : allBelow 256 onesRight ≡ true
-unfolding allBelow onesRight ones onesIn countBelow names bit
-ones-table = refl
-
-zeros-table : allBelow 256 zerosRight ≡ true
-unfolding allBelow zerosRight trailingZeros onesIn ones firstBelow names bit
-zeros-table = refl
-
--- r is what a call answered: the flags of the header that count
-module _ (s : List ℕ) (r : ℕ) (e : r ≡ platformsAt s 0) where
-  low : r < 256
-  unfolding platformsAt
-  low = rw e (omega arith)
-
-  pub ones-count : ones r ≡ platformCount s
-  unfolding platformCount onesRight
-  ones-count = rw (← e) (eqb-true _ _ (all-at onesRight 256 r ones-table low))
-
-  pub zeros-first : trailingZeros 8 r ≡ lowestPlatform s
-  unfolding lowestPlatform zerosRight
-  zeros-first = rw (← e) (eqb-true _ _ (all-at zerosRight 256 r zeros-table low))

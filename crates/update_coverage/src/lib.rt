@@ -8,6 +8,9 @@ ghost use Rattle.update_header.specs.Fields.{dataSize};
 ghost use Rattle.update_coverage.specs.Covers.{pairCount, signatureOffset, flagsOffset, signatureAt, platformsAt, names, pairCovers, coversAt, covers};
 use update_header::checks;
 use update_header::fields;
+use update_sizes::ENTRY;
+use update_sizes::HEADER;
+use update_sizes::TABLE_HEAD;
 
 // How many pairs there are: none where check 2 or 3 of the write fails.
 pub fn pair_count(s: &[u8]) -> u32
@@ -32,9 +35,9 @@ fn signature_offset(d: u32, i: u32) -> usize
     ensures { λ r. ⌜ r ≡ signatureOffset d i ⌝ }
 {
     if i == 0 {
-        12
+        fields::SIGNATURE_AT
     } else {
-        48 + d as usize + 20 + 12 * ((i - 1) as usize)
+        HEADER + d as usize + TABLE_HEAD + ENTRY * ((i - 1) as usize)
     }
 }
 
@@ -43,9 +46,9 @@ fn flags_offset(d: u32, i: u32) -> usize
     ensures { λ r. ⌜ r ≡ flagsOffset d i ⌝ }
 {
     if i == 0 {
-        24
+        fields::FLAGS_AT
     } else {
-        48 + d as usize + 20 + 12 * ((i - 1) as usize) + 4
+        HEADER + d as usize + TABLE_HEAD + ENTRY * ((i - 1) as usize) + 4
     }
 }
 

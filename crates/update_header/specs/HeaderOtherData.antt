@@ -10,7 +10,8 @@ use mathlib.Core.List.{List}
 use native.Mathlib.Omega.{arith}
 use lib.ListN.{length, getD}
 use Rattle.laws.specs.Same.{Same}
-use Rattle.bytes_dwords.specs.Dword.{dword, dword-same}
+use Rattle.bytes_dwords.specs.Dword.{dword}
+use Rattle.bytes_dwords.specs.DwordLaws.{dword-same}
 use Rattle.update_header.specs.Fields.{dataSize, totalSize, tableCount, entryCount}
 use Rattle.update_header.specs.Checks.{headerOk, sizesFit}
 

@@ -8,7 +8,7 @@ use crate::fields;
 pub fn header_ok(s: &[u8]) -> bool
     ensures { λ r. ⌜ r ≡ headerOk (now (s .entry)) ⌝ }
 {
-    if s.len() < 48 {
+    if s.len() < update_sizes::HEADER {
         return false;
     }
     if fields::version(s) != 1 {

@@ -2,6 +2,11 @@
 ghost use mathlib.Core.Path.{_≡_};
 ghost use Rattle.update_header.specs.Fields.{version, revision, date, signature, checksum, loaderVersion, flags, storedDataSize, storedTotalSize, dataSize, totalSize, tableCount};
 
+// Where the signature stands in the header.
+pub const SIGNATURE_AT: usize = 12;
+// Where the flags stand in the header.
+pub const FLAGS_AT: usize = 24;
+
 // Must be 1.
 pub fn version(s: &[u8]) -> u32
     ensures { λ r. ⌜ r ≡ version (now (s .entry)) ⌝ }
@@ -24,7 +29,7 @@ pub fn date(s: &[u8]) -> u32
 pub fn signature(s: &[u8]) -> u32
     ensures { λ r. ⌜ r ≡ signature (now (s .entry)) ⌝ }
 {
-    bytes_dwords::dword(s, 12)
+    bytes_dwords::dword(s, SIGNATURE_AT)
 }
 
 pub fn checksum(s: &[u8]) -> u32
@@ -43,7 +48,7 @@ pub fn loader_version(s: &[u8]) -> u32
 pub fn flags(s: &[u8]) -> u32
     ensures { λ r. ⌜ r ≡ flags (now (s .entry)) ⌝ }
 {
-    bytes_dwords::dword(s, 24)
+    bytes_dwords::dword(s, FLAGS_AT)
 }
 
 // D as stored: 0 means 2,000.
@@ -79,5 +84,5 @@ pub fn table_count(s: &[u8], d: u32) -> u32
     requires { ⌜ d ≡ dataSize (now s) ⌝ }
     ensures { λ r. ⌜ r ≡ tableCount (now (s .entry)) ⌝ }
 {
-    bytes_dwords::dword(s, 48 + d as usize)
+    bytes_dwords::dword(s, update_sizes::HEADER + d as usize)
 }

@@ -10,7 +10,7 @@ use native.Mathlib.Omega.{arith}
 use lib.ListN.{length}
 use Rattle.laws.specs.Below.{any-cong}
 use Rattle.laws.specs.Same.{Same}
-use Rattle.bytes_dwords.specs.Dword.{dword-same}
+use Rattle.bytes_dwords.specs.DwordLaws.{dword-same}
 use Rattle.update_header.specs.Fields.{dataSize}
 use Rattle.update_verdict.specs.Verdict.{verdict}
 use Rattle.update_verdict.specs.VerdictLaws.{Judged, judged}

@@ -1,13 +1,43 @@
 -- The sizes of an update, as numbers: what D = 0 means, the size rules, the number of entries and the number of blocks (document 01, "The
 -- update").
+--   header, tableHead, entry   bytes of the header, of the table before its entries, and of an entry
+--   mostEntries, mostTotal     the most entries, and the greatest T
+--   dataUnit, totalUnit        D and T are multiples of these
+--   block                      bytes of a block
 --   dataSizeOf, totalSizeOf    the sizes that the stored D and T mean
 --   sizesOk       the rule for D, T and the table's count field; every sum is one of whole numbers
 --   entriesOf     n, the number of entries: none where T = 48 + D
 --   entryOffset   where entry k begins, behind d data bytes
 --   blocksOf      ceiling(T / 2,048), the blocks that T bytes occupy
-use Prim.Native.Nat.{ℕ, _+_, _*_, _%_, _/_}
+use Prim.Native.Nat.{ℕ, _+_, _*_, _-_, _%_, _/_}
 use mathlib.Core.Bool.{Bool, cond, _&&_, _||_}
 use lib.Dec.{leb, eqb}
+
+abbrev pub header : ℕ
+header = 48
+
+-- count, checksum, 12 reserved bytes
+abbrev pub tableHead : ℕ
+tableHead = 20
+
+-- signature, flags, checksum
+abbrev pub entry : ℕ
+entry = 12
+
+abbrev pub mostEntries : ℕ
+mostEntries = 64
+
+abbrev pub mostTotal : ℕ
+mostTotal = 32768
+
+abbrev pub dataUnit : ℕ
+dataUnit = 4
+
+abbrev pub totalUnit : ℕ
+totalUnit = 1024
+
+abbrev pub block : ℕ
+block = 2048
 
 -- D = 0 means 2,000 data bytes and T = 2,048, whatever stands at 32
 unfoldable pub dataSizeOf : ℕ → ℕ
@@ -20,15 +50,15 @@ totalSizeOf d t = cond (eqb d 0) 2048 t
 -- entries, n from 1 to 64; n is the table's count field
 unfoldable pub sizesOk : ℕ → ℕ → ℕ → Bool
 sizesOk d t n =
-    eqb (d % 4) 0 && eqb (t % 1024) 0 && leb t 32768
-    && (eqb t (48 + d) || (leb 1 n && leb n 64 && eqb t (48 + d + 20 + 12 * n)))
+    eqb (d % dataUnit) 0 && eqb (t % totalUnit) 0 && leb t mostTotal
+    && (eqb t (header + d) || (leb 1 n && leb n mostEntries && eqb t (header + d + tableHead + entry * n)))
 
 unfoldable pub entriesOf : ℕ → ℕ → ℕ → ℕ
-entriesOf d t n = cond (eqb t (48 + d)) 0 n
+entriesOf d t n = cond (eqb t (header + d)) 0 n
 
--- the table begins at 48 + D with 20 bytes of its own: count, checksum, 12 reserved bytes
+-- the table begins at 48 + D
 unfoldable pub entryOffset : ℕ → ℕ → ℕ
-entryOffset d k = 48 + d + 20 + 12 * k
+entryOffset d k = header + d + tableHead + entry * k
 
 unfoldable pub blocksOf : ℕ → ℕ
-blocksOf t = (t + 2047) / 2048
+blocksOf t = (t + (block - 1)) / block

@@ -12,7 +12,8 @@ use lib.ListN.{length, take, drop, length-take, length-drop}
 use lib.Seq.{take-add}
 use Rattle.laws.specs.Below.{allBelow}
 use Rattle.laws.specs.Tests.{and-stop, and-next}
-use Rattle.bytes_dwords.specs.Sum.{dwordSum, sum-append}
+use Rattle.bytes_dwords.specs.Sum.{dwordSum}
+use Rattle.bytes_dwords.specs.DwordSumLaws.{sum-append}
 use Rattle.update_header.specs.Fields.{dataSize, totalSize, entryCount}
 use Rattle.update_verdict.specs.Sums.{sumOf, headerSum, entryOk, table, sumsOk}
 use Rattle.update_header.specs.Inside.{Inside}

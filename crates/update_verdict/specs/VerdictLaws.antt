@@ -11,6 +11,7 @@ use mathlib.Core.Bool.{Bool, true, false}
 use mathlib.Core.List.{List}
 use native.Mathlib.Omega.{arith}
 use lib.ListN.{length}
+use Rattle.laws.specs.Orders.{impossible}
 use Rattle.laws.specs.Unless.{unless}
 use Rattle.update_header.specs.Fields.{dataSize, totalSize, entryCount}
 use Rattle.update_sizes.specs.Sizes.{blocksOf}
@@ -41,9 +42,9 @@ judged s t d n k e = go (headerOk s) refl (sizesFit s) refl (sumsOk s) refl e
     go : (a : Bool) → headerOk s ≡ a → (b : Bool) → sizesFit s ≡ b → (c : Bool) → sumsOk s ≡ c
         → unless a BadHeader (unless b BadHeader (unless c BadSum (Good (totalSize s) (dataSize s) (entryCount s) (blocksOf (totalSize s))))) ≡ Good t d n k → Judged s t d n k
     go true p true q true r e = record { header = p; sizes = q; sums = r; total = (cc); «data» = (cc); entries = (cc); blocks = (cc) }
-    go true p true q false r e = absurd (let z : _≡_ {A = ℕ} 0 1 = cc in omega arith)
-    go true p false q c r e = absurd (let z : _≡_ {A = ℕ} 0 1 = cc in omega arith)
-    go false p b q c r e = absurd (let z : _≡_ {A = ℕ} 0 1 = cc in omega arith)
+    go true p true q false r e = absurd (impossible (cc))
+    go true p false q c r e = absurd (impossible (cc))
+    go false p b q c r e = absurd (impossible (cc))
 
 pub good-made : (s : List ℕ) → headerOk s ≡ true → sizesFit s ≡ true → sumsOk s ≡ true → verdict s ≡ Good (totalSize s) (dataSize s) (entryCount s) (blocksOf (totalSize s))
 unfolding verdict unless

@@ -12,7 +12,8 @@ use borrow.Author.Tests.{le-leb}
 use Rattle.laws.specs.Bools.{and-parts, and-made}
 use Rattle.laws.specs.Below.{allBelow, all-cong}
 use Rattle.laws.specs.Same.{Same, same-less, same-drop, same-take}
-use Rattle.bytes_dwords.specs.Dword.{dword, dword-same}
+use Rattle.bytes_dwords.specs.Dword.{dword}
+use Rattle.bytes_dwords.specs.DwordLaws.{dword-same}
 use Rattle.update_header.specs.Fields.{revision, dataSize, totalSize, tableCount, entryCount}
 use Rattle.update_sizes.specs.Sizes.{sizesOk, entriesOf, entryOffset}
 use Rattle.update_verdict.specs.Sums.{headerSum, entryOk, table, sumsOk}

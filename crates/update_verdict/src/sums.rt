@@ -8,6 +8,9 @@ ghost use Rattle.update_sizes.specs.Sizes.{entryOffset};
 ghost use Rattle.update_verdict.specs.Sums.{sumOf, headerSum, entryOk, sumsOk};
 ghost use Rattle.update_header.specs.Inside.{Inside};
 use update_header::fields;
+use update_sizes::ENTRY;
+use update_sizes::HEADER;
+use update_sizes::TABLE_HEAD;
 
 fn sum_of(signature: u32, flags: u32, checksum: u32) -> u32
     ensures { λ r. ⌜ r ≡ sumOf signature flags checksum ⌝ }
@@ -25,7 +28,7 @@ fn entry_ok(s: &[u8], d: u32, want: u32, k: u32) -> bool
     requires { ⌜ entryOffset d k + 12 ≤ length (now s) ⌝ }
     ensures { λ r. ⌜ r ≡ entryOk (now (s .entry)) d want k ⌝ }
 {
-    let at = 48 + d as usize + 20 + 12 * (k as usize);
+    let at = HEADER + d as usize + TABLE_HEAD + ENTRY * (k as usize);
     sum_of(
         bytes_dwords::dword_inside(s, at),
         bytes_dwords::dword_inside(s, at + 4),
@@ -55,7 +58,7 @@ pub fn sums_ok(s: &[u8], d: u32, t: u32, n: u32) -> bool
     ensures { λ r. ⌜ r ≡ sumsOk (now (s .entry)) ⌝ }
 {
     let end = t as usize;
-    let begin = 48 + d as usize;
+    let begin = HEADER + d as usize;
     let table = bytes_dwords::sum(&s[begin..end]);
     let all = std::num::wrapping_add_u32(bytes_dwords::sum(&s[..begin]), table);
     if all != 0 {

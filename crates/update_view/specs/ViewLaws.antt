@@ -1,26 +1,27 @@
 -- Laws of views.
---   viewing      the bytes of a view by the verdict, as `search` takes them
---   parting      the three parts that the code gives of the data, as `search` takes them
---   part-local   an update's data are settled by its T bytes
---   Seen, seen   the view of a good update is that update: its verdict, fields, sizes and data
---   only-good    a view holds bytes only of a good update
-use Prim.Native.Nat.{ℕ, _+_, _-_, _<_, _≤_}
+--   viewing         the bytes of a view by the verdict, as `search` takes them
+--   Seen, seen      the view of a good update is that update: its verdict, fields, sizes and data
+--   only-good       a view holds bytes only of a good update
+--   holds-update    a view of s holds bytes exactly if an update begins s
+use Prim.Native.Nat.{ℕ, _+_, _≤_}
 use mathlib.Core.Path.{_≡_, refl, sym, ap, _∙_}
 use mathlib.Core.Bool.{true, true≢false}
 use mathlib.Core.List.{List}
 use native.Mathlib.Omega.{arith}
-use lib.ListN.{length, getD, take, drop, length-drop, drop-of-length-le}
-use lib.Seq.{take-nil, take-all, getD-take, length-take-le}
+use lib.ListN.{length, getD, take, drop, length-drop}
+use lib.Seq.{getD-take, length-take-le}
 use borrow.Author.Tests.{lt-ltb}
-use Rattle.laws.specs.Same.{Same, same-less, same-drop, same-take}
+use Rattle.laws.specs.Same.{Same}
 use Rattle.bytes_dwords.specs.Dword.{dword}
-use Rattle.update_header.specs.Fields.{revision, date, signature, flags, dataSize}
+use Rattle.update_header.specs.Fields.{version, revision, date, signature, checksum, loaderVersion, flags, dataSize}
+use Rattle.update_header.specs.DataPart.{dataPart}
+use Rattle.update_header.specs.DataPartLaws.{part-same}
 use Rattle.update_verdict.specs.Verdict.{verdict}
 use Rattle.update_verdict.specs.VerdictLaws.{judged, good-size}
 use Rattle.update_verdict.specs.VerdictLocal.{field-local, data-local, verdict-local}
 use Rattle.update_verdict.specs.declared.Verdict.{Verdict}
 use Rattle.update_verdict.specs.declared.Verdict.the-variants.{Good, BadHeader, BadSum}
-use Rattle.update_view.specs.View.{viewedBy, viewed, isUpdate, dataPart}
+use Rattle.update_view.specs.View.{viewedBy, viewed, isGood, isUpdate, holdsBytes}
 
 -- c is the verdict that is matched
 module _ (s : List ℕ) (c : Verdict) (e : c ≡ verdict s) where
@@ -42,43 +43,16 @@ module _ (s : List ℕ) (c : Verdict) (e : c ≡ verdict s) where
 
 pub ruleset viewing = (view-count, view-good, view-header, view-sum)
 
-module _ (v : List ℕ) where
-  pub part-short : length v < 48 → take 0 v ≡ dataPart v
-  unfolding dataPart
-  part-short l = rw (drop-of-length-le v {i = 48} (omega arith)) (sym (take-nil (dataSize v)))
-
-  module _ (n : ℕ) (e : n ≡ dataSize v) where
-    pub part-whole : 48 ≤ length v → take (48 + n - 48) (drop 48 v) ≡ dataPart v
-    unfolding dataPart
-    part-whole l = let q : 48 + n - 48 ≡ n = omega arith in rw (q, e)
-
-    pub part-cut : 48 ≤ length v → length v - 48 < n → take (length v - 48) (drop 48 v) ≡ dataPart v
-    unfolding dataPart
-    part-cut l m =
-        let h = length-drop 48 v in
-        take-all (length v - 48) (drop 48 v) (omega arith) ∙ sym (take-all (dataSize v) (drop 48 v) (omega arith))
-
-pub ruleset parting = (part-short, part-whole, part-cut)
-
--- r has the T bytes of the update s
-pub part-local : (s r : List ℕ) (t d n k : ℕ) → verdict s ≡ Good t d n k → Same s r t → t ≤ length r → dataPart s ≡ dataPart r
-unfolding dataPart
-part-local s r t d n k good same long =
-    let z = good-size s t d n k good in
-    let e : d ≡ dataSize s = judged s t d n k good .«data» in
-    let a = length-drop 48 s in
-    let b = length-drop 48 r in
-    rw (← data-local s r t d n k good same long)
-    (same-take (drop 48 s) (drop 48 r) (dataSize s) (omega (arith, z .2, z .3)) (omega (arith, z .3))
-    (same-drop s r (dataSize s) 48 (same-less s r t (48 + dataSize s) same (omega (arith, z .3)))))
-
 -- the view of a good update is that update, with its fields, its T and its data
 pub record Seen (s : List ℕ) (t d n k : ℕ) : Type 0 where
-  pub update : isUpdate (viewed s) ≡ true
+  pub update : holdsBytes (viewed s) ≡ true
   pub good : verdict (viewed s) ≡ Good t d n k
+  pub version-same : version (viewed s) ≡ version s
   pub revision-same : revision (viewed s) ≡ revision s
   pub date-same : date (viewed s) ≡ date s
   pub signature-same : signature (viewed s) ≡ signature s
+  pub checksum-same : checksum (viewed s) ≡ checksum s
+  pub loader-version-same : loaderVersion (viewed s) ≡ loaderVersion s
   pub flags-same : flags (viewed s) ≡ flags s
   pub total : length (viewed s) ≡ t
   pub data-same : dataPart (viewed s) ≡ dataPart s
@@ -108,21 +82,34 @@ module _ (s : List ℕ) (t d n k : ℕ) (g : verdict s ≡ Good t d n k) where
   seen = record {
     update = lt-ltb 0 (length (viewed s)) (omega (arith, long, size));
     good = verdict-local s (viewed s) t d n k g same (omega (arith, long));
+    version-same = field 0 (omega arith);
     revision-same = field 4 (omega arith);
     date-same = field 8 (omega arith);
     signature-same = field 12 (omega arith);
+    checksum-same = field 16 (omega arith);
+    loader-version-same = field 20 (omega arith);
     flags-same = field 24 (omega arith);
     total = long;
-    data-same = sym (part-local s (viewed s) t d n k g same (omega (arith, long)));
+    data-same = sym (part-same s (viewed s) t (omega (arith, judged s t d n k g .«data», size)) (size .2) (omega (arith, long)) same);
     data-long = rw (← counted) (length-take-le d (drop 48 (viewed s)) (omega (arith, length-drop 48 (viewed s), long, size)));
   }
 
 -- a view holds bytes only of a good update
-pub only-good : (s : List ℕ) → isUpdate (viewed s) ≡ true → (t : ℕ) × (d : ℕ) × (n : ℕ) × (k : ℕ) × (verdict s ≡ Good t d n k)
+pub only-good : (s : List ℕ) → holdsBytes (viewed s) ≡ true → (t : ℕ) × (d : ℕ) × (n : ℕ) × (k : ℕ) × (verdict s ≡ Good t d n k)
 unfolding viewed viewedBy
 only-good s h = go (verdict s) refl h
   where
-    go : (c : Verdict) → verdict s ≡ c → isUpdate (viewedBy s c) ≡ true → (t : ℕ) × (d : ℕ) × (n : ℕ) × (k : ℕ) × (verdict s ≡ Good t d n k)
+    go : (c : Verdict) → verdict s ≡ c → holdsBytes (viewedBy s c) ≡ true → (t : ℕ) × (d : ℕ) × (n : ℕ) × (k : ℕ) × (verdict s ≡ Good t d n k)
     go (Good t d n k) e h = (t, d, n, k, e)
     go BadHeader e h = absurd (true≢false (sym h))
     go BadSum e h = absurd (true≢false (sym h))
+
+-- a view of s holds bytes exactly if an update begins s
+pub holds-update : (s : List ℕ) → holdsBytes (viewed s) ≡ isUpdate s
+unfolding viewed viewedBy isUpdate
+holds-update s = go (verdict s) refl
+  where
+    go : (c : Verdict) → verdict s ≡ c → holdsBytes (viewedBy s c) ≡ isGood c
+    go (Good t d n k) e = ap (λ (c : Verdict). holdsBytes (viewedBy s c)) (sym e) ∙ seen s t d n k e .update
+    go BadHeader e = refl
+    go BadSum e = refl

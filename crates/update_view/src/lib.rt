@@ -2,9 +2,11 @@
 // data. Each takes the view apart and calls a function of a plain slice. A caller that wants the numbers by value calls `summary`.
 ghost use mathlib.Core.Path.{_≡_};
 ghost use lib.ListN.{length};
-ghost use Rattle.update_header.specs.Fields.{revision, date, signature, flags};
-ghost use Rattle.update_view.specs.View.{viewed, isUpdate, dataPart, summaryOf};
+ghost use Rattle.update_header.specs.DataPart.{dataPart};
+ghost use Rattle.update_header.specs.Fields.{version, revision, date, signature, checksum, loaderVersion, flags};
+ghost use Rattle.update_view.specs.View.{viewed, holdsBytes, summaryOf};
 use crate::parts::Summary;
+use update_header::data::data_part;
 use update_header::fields;
 
 pub mod parts;
@@ -22,10 +24,17 @@ pub fn view<'a>(bytes: &'a [u8]) -> UpdateView<'a>
     }
 }
 
+// A view of no update holds no bytes: of `view(s)` this is true exactly if an update begins s (`holds-update`).
 pub fn is_update<'a>(v: UpdateView<'a>) -> bool
-    ensures { λ r. ⌜ r ≡ isUpdate (now (v .entry .bytes)) ⌝ }
+    ensures { λ r. ⌜ r ≡ holdsBytes (now (v .entry .bytes)) ⌝ }
 {
-    parts::is_update(v.bytes)
+    parts::holds_bytes(v.bytes)
+}
+
+pub fn header_version<'a>(v: UpdateView<'a>) -> u32
+    ensures { λ r. ⌜ r ≡ version (now (v .entry .bytes)) ⌝ }
+{
+    fields::version(v.bytes)
 }
 
 pub fn revision<'a>(v: UpdateView<'a>) -> u32
@@ -44,6 +53,18 @@ pub fn signature<'a>(v: UpdateView<'a>) -> u32
     ensures { λ r. ⌜ r ≡ signature (now (v .entry .bytes)) ⌝ }
 {
     fields::signature(v.bytes)
+}
+
+pub fn checksum<'a>(v: UpdateView<'a>) -> u32
+    ensures { λ r. ⌜ r ≡ checksum (now (v .entry .bytes)) ⌝ }
+{
+    fields::checksum(v.bytes)
+}
+
+pub fn loader_version<'a>(v: UpdateView<'a>) -> u32
+    ensures { λ r. ⌜ r ≡ loaderVersion (now (v .entry .bytes)) ⌝ }
+{
+    fields::loader_version(v.bytes)
 }
 
 pub fn flags<'a>(v: UpdateView<'a>) -> u32
@@ -68,19 +89,22 @@ pub fn total_size<'a>(v: UpdateView<'a>) -> usize
 pub fn data<'a>(v: UpdateView<'a>) -> &'a [u8]
     ensures { λ r. ⌜ now r ≡ dataPart (now (v .entry .bytes)) ⌝ }
 {
-    parts::data_part(v.bytes)
+    data_part(v.bytes)
 }
 
 // All but the data, by value, of the update that begins the slice.
 pub fn summary(bytes: &[u8]) -> Summary
-    ensures { λ r. ⌜ r ≡ summaryOf (viewed (now (bytes .entry))) ⌝ }
+    ensures { λ r. ⌜ r ≡ summaryOf (now (bytes .entry)) ⌝ }
 {
     let v = view(bytes);
     Summary {
         ok: is_update(v),
+        header_version: header_version(v),
         revision: revision(v),
         date: date(v),
         signature: signature(v),
+        checksum: checksum(v),
+        loader_version: loader_version(v),
         flags: flags(v),
         data_size: data_size(v),
         total_size: total_size(v),

@@ -1,16 +1,20 @@
 // What a view holds and gives, as functions of plain slices.
 ghost use mathlib.Core.Path.{_≡_};
 ghost use lib.ListN.{length};
-ghost use Rattle.update_view.specs.View.{viewed, isUpdate, dataPart};
-use update_header::fields;
+ghost use Rattle.update_header.specs.DataPart.{dataPart};
+ghost use Rattle.update_view.specs.View.{viewed, holdsBytes};
+use update_header::data::data_part;
 use update_verdict::Verdict;
 
 // The numbers that a view gives, by value.
 pub struct Summary {
     pub ok: bool,
+    pub header_version: u32,
     pub revision: u32,
     pub date: u32,
     pub signature: u32,
+    pub checksum: u32,
+    pub loader_version: u32,
     pub flags: u32,
     pub data_size: usize,
     pub total_size: usize,
@@ -35,8 +39,8 @@ pub fn front(s: &[u8]) -> &[u8]
     }
 }
 
-pub fn is_update(s: &[u8]) -> bool
-    ensures { λ r. ⌜ r ≡ isUpdate (now (s .entry)) ⌝ }
+pub fn holds_bytes(s: &[u8]) -> bool
+    ensures { λ r. ⌜ r ≡ holdsBytes (now (s .entry)) ⌝ }
 {
     0 < s.len()
 }
@@ -45,23 +49,6 @@ pub fn total_size(s: &[u8]) -> usize
     ensures { λ r. ⌜ r ≡ length (now (s .entry)) ⌝ }
 {
     s.len()
-}
-
-// The data bytes, as many as there are.
-pub fn data_part(s: &[u8]) -> &[u8]
-    ensures { λ r. ⌜ now r ≡ dataPart (now (s .entry)) ⌝ }
-{
-    let n = fields::data_size(s) as usize;
-    if s.len() < 48 {
-        return &s[..0];
-    }
-    let rest = s.len() - 48;
-    if n <= rest {
-        let end = 48 + n;
-        &s[48..end]
-    } else {
-        &s[48..]
-    }
 }
 
 pub fn data_size(s: &[u8]) -> usize

@@ -9,15 +9,16 @@ use mathlib.Core.List.{List, [], _∷_, _++_}
 use native.Mathlib.Omega.{arith}
 use lib.ListN.{length, getD, length-append, List·getD-append}
 use lib.Seq.{getD-at}
+use Rattle.processor_list.specs.Processors.{ProcessorList}
 use Rattle.laws.specs.Listed.{listBelow}
 use Rattle.laws.specs.Count.{countBelow, count-cong}
 use Rattle.store_blocks.specs.Blocks.{blockCount}
 use Rattle.store_directory.specs.Scan.{first, startsTo, pad, listed, storeOk, directory}
 use Rattle.store_directory.specs.StoreLaws.{pad-at, directory-listed}
 use Rattle.store_directory.specs.declared.Directory.{Directory}
-use Rattle.write_placement.specs.LegalByNumber.{emptied}
+use Rattle.write_placement.specs.LegalByNumber.{emptiedCountByNumber}
 use Rattle.write_outcome.specs.Legal.{storedIn, emptiedCount}
-use Rattle.write_plan.specs.CandidateMarks.{heldIn}
+use Rattle.write_plan.specs.CandidateMarks.{storedUpdates}
 use Rattle.write_call.specs.Join.{byNumber}
 
 unfoldable pub atEntry : List ℕ → (ℕ → Bool) → ℕ → Bool
@@ -50,7 +51,7 @@ module _ (s : List ℕ) (e : ℕ → Bool) where
       rw q (count-cong (atEntry (pad (startsTo s n)) e) (atEntry (startsTo s n) e) (length (startsTo s n)) (λ i l. ap e (pad-at (startsTo s n) i l))
       ∙ entries-count n)
 
-pub number-count : (old signatures platforms cand : List ℕ) (e : ℕ → Bool) → storeOk old ≡ true
-    → emptied (heldIn old signatures platforms cand) (byNumber old e) ≡ emptiedCount old e
-unfolding emptied heldIn emptiedCount byNumber atEntry
-number-count old signatures platforms cand e ok = listed-count old e (directory old) (blockCount old) (directory-listed old (directory old) refl ok)
+pub number-count : (old : List ℕ) (list : ProcessorList) (cand : List ℕ) (e : ℕ → Bool) → storeOk old ≡ true
+    → emptiedCountByNumber (storedUpdates old list cand) (byNumber old e) ≡ emptiedCount old e
+unfolding emptiedCountByNumber storedUpdates emptiedCount byNumber atEntry
+number-count old list cand e ok = listed-count old e (directory old) (blockCount old) (directory-listed old (directory old) refl ok)

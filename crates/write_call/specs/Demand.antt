@@ -23,20 +23,21 @@ use Rattle.store_blocks.specs.Blocks.{fromBlock, blockCount}
 use Rattle.store_directory.specs.Scan.{slotAt, sizeAt, first, storeOk}
 use Rattle.store_directory.specs.Valid.{ValidStore}
 use Rattle.store_blocks.specs.declared.slot.Slot.the-variants.{Update}
-use Rattle.processor_list.specs.Processors.{listOk, coversOne, Keeps}
+use Rattle.processor_list.specs.Processors.{ProcessorList, listOk, coversOne, Needed}
 use Rattle.write_outcome.specs.Legal.{Legal, emptiedCount}
 use Rattle.write_outcome.specs.OutcomeBytes.{outcomeBytes}
+use Rattle.call_answers.specs.Codes.{STORAGE-FULL}
 use Rattle.call_answers.specs.Answers.{ahOf}
 use Rattle.call_answers.specs.declared.answer.Answer.{Answer}
 use Rattle.call_answers.specs.declared.answer.Written.{Written as WrittenNumbers}
 use Rattle.call_answers.specs.declared.answer.Answer.the-variants.{Written}
 use Rattle.write_plan.specs.CandidateMarks.{outdated}
 
-pub record Passes (old signatures platforms cand : List ℕ) : Type 0 where
+pub record Passes (old : List ℕ) (list : ProcessorList) (cand : List ℕ) : Type 0 where
   pub store : storeOk old ≡ true
-  pub list : listOk signatures platforms ≡ true
+  pub good-list : listOk list ≡ true
   pub good : (t : ℕ) × (d : ℕ) × (n : ℕ) × (k : ℕ) × (verdict cand ≡ Good t d n k)
-  pub present : coversOne signatures platforms cand ≡ true
+  pub present : coversOne list cand ≡ true
   pub newer : outdated old cand ≡ false
 
 -- byte i of the update at block b is as it was
@@ -50,30 +51,30 @@ standsAt old new b = first new b && allBelow (sizeAt old b * 2048) (sameByte old
 unfoldable pub goneAt : List ℕ → List ℕ → ℕ → Bool
 goneAt old new b = first old b && not (standsAt old new b)
 
-pub record Accepted (old signatures platforms cand : List ℕ) (start emptied : ℕ) (new : List ℕ) : Type 0 where
+pub record Accepted (old : List ℕ) (list : ProcessorList) (cand : List ℕ) (start emptied : ℕ) (new : List ℕ) : Type 0 where
   -- the store holds exactly the bytes of a legal outcome with the answered start and emptied count
   pub set : ℕ → Bool
-  pub legal : Legal old signatures platforms cand (totalSize cand) start set
+  pub legal : Legal old list cand (totalSize cand) start set
   pub bytes : new ≡ outcomeBytes old (totalSize cand) cand start set
   pub count : emptied ≡ emptiedCount old set
   -- no legal outcome empties fewer
-  pub fewest : (a : ℕ) (e : ℕ → Bool) → Legal old signatures platforms cand (totalSize cand) a e → emptied ≤ emptiedCount old e
+  pub fewest : (a : ℕ) (e : ℕ → Bool) → Legal old list cand (totalSize cand) a e → emptied ≤ emptiedCount old e
   -- none that empties just as many starts lower
-  pub lowest : (a : ℕ) (e : ℕ → Bool) → Legal old signatures platforms cand (totalSize cand) a e → emptiedCount old e ≡ emptied → start ≤ a
+  pub lowest : (a : ℕ) (e : ℕ → Bool) → Legal old list cand (totalSize cand) a e → emptiedCount old e ≡ emptied → start ≤ a
   -- every kept update stands at its place with its old bytes
   pub kept : (b j : ℕ) → b < blockCount old → first old b ≡ true → set b ≡ false → slotAt old b ≡ Update j
       → (first new b ≡ true) × (slotAt new b ≡ Update j) × Same (fromBlock old b) (fromBlock new b) (j * 2048)
   -- every update that covers a present processor that the candidate doesn't cover is kept
-  pub needed : (b : ℕ) → b < blockCount old → first old b ≡ true → Keeps signatures platforms cand (fromBlock old b) → set b ≡ false
+  pub needed : (b : ℕ) → b < blockCount old → first old b ≡ true → Needed list cand (fromBlock old b) → set b ≡ false
   -- no processor, present or not, is covered by two updates: the new store is valid
   pub valid : ValidStore new
   -- the emptied count is the number of updates stored before that no longer stand at their place
   pub gone : emptied ≡ countBelow (blockCount old) (goneAt old new)
 
-pub record Demand3 (old signatures platforms cand : List ℕ) (back : ℕ) (answer : Answer) (new : List ℕ) : Type 0 where
+pub record Demand3 (old : List ℕ) (list : ProcessorList) (cand : List ℕ) (back : ℕ) (answer : Answer) (new : List ℕ) : Type 0 where
   -- STORAGE_FULL exactly when no legal outcome exists
-  pub full : (ahOf answer ≡ 0x93) ↔ ((start : ℕ) (e : ℕ → Bool) → Legal old signatures platforms cand (totalSize cand) start e → ⊥)
+  pub full : (ahOf answer ≡ STORAGE-FULL) ↔ ((start : ℕ) (e : ℕ → Bool) → Legal old list cand (totalSize cand) start e → ⊥)
   -- otherwise it accepts exactly when the processor reads back the candidate's revision
-  pub accepts : (start : ℕ) (e : ℕ → Bool) → Legal old signatures platforms cand (totalSize cand) start e
+  pub accepts : (start : ℕ) (e : ℕ → Bool) → Legal old list cand (totalSize cand) start e
       → ((a : WrittenNumbers) × (answer ≡ Written a)) ↔ (back ≡ revision cand)
-  pub accepted : (a : WrittenNumbers) → answer ≡ Written a → Accepted old signatures platforms cand (a .start) (a .emptied) new
+  pub accepted : (a : WrittenNumbers) → answer ≡ Written a → Accepted old list cand (a .start) (a .emptied) new

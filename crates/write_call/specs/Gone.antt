@@ -33,7 +33,7 @@ use Rattle.store_directory.specs.LayoutLaws.{first-parts}
 use Rattle.store_directory.specs.ValidLaws.{store-valid}
 use Rattle.store_directory.specs.DirectoryLaws.{listing}
 use Rattle.store_blocks.specs.declared.slot.Slot.the-variants.{Update}
-use Rattle.processor_list.specs.Processors.{coversListed, coversOne}
+use Rattle.processor_list.specs.Processors.{ProcessorList, coversListed, coversOne}
 use Rattle.write_outcome.specs.Legal.{Legal, storedIn, emptiedCount}
 use Rattle.write_outcome.specs.OutcomeBytes.{outcomeBytes}
 use Rattle.write_outcome.specs.After.{kept, after, After}
@@ -57,25 +57,25 @@ module _ (u v cand : List ℕ) (j t d n k : ℕ) (slot : slotOf u ≡ Update j) 
       ∙ sym (revision-local cand v t d n k good bytes lent)
 
 -- an update that covers what the candidate does, with its revision, isn't older
-not-newer : (old signatures platforms cand : List ℕ) (b : ℕ) → storeOk old ≡ true → b < blockCount old → first old b ≡ true → coversOne signatures platforms cand ≡ true
+not-newer : (old : List ℕ) (list : ProcessorList) (cand : List ℕ) (b : ℕ) → storeOk old ≡ true → b < blockCount old → first old b ≡ true → coversOne list cand ≡ true
     → Alike (fromBlock old b) cand → revision (fromBlock old b) ≡ revision cand → outdated old cand ≡ true
 unfolding coversOne coversListed outdated outdates sharesEntry
-not-newer old signatures platforms cand b ok l f present alike rev =
-    let w = any-at (coversListed signatures platforms cand) (length signatures) present in
-    let x = getD signatures (w .0) 0 in
-    let p = getD platforms (w .0) 0 in
+not-newer old list cand b ok l f present alike rev =
+    let w = any-at (coversListed list cand) (length (list .signatures)) present in
+    let x = getD (list .signatures) (w .0) 0 in
+    let p = getD (list .platforms) (w .0) 0 in
     let both : Shares (fromBlock old b) cand = record { signature = x; platform = p; processor = covers-platform cand x p (w .2); left = alike x p ∙ w .2; right = w .2 } in
     let i = listing old ok (directory old) refl .every b l f in
     any-stop (outdates old cand) (directory old .count) (i .0) (i .1)
     (rw (i .2) (and-made (shares-law (fromBlock old b) cand .1 both) (le-leb (revision cand) (revision (fromBlock old b)) (omega (arith, rev)))))
 
-module _ (old signatures platforms cand : List ℕ) (t d n k start : ℕ) (e : ℕ → Bool) (ok : storeOk old ≡ true)
-    (good : verdict cand ≡ Good t d n k) (legal : Legal old signatures platforms cand t start e) where
+module _ (old : List ℕ) (list : ProcessorList) (cand : List ℕ) (t d n k start : ℕ) (e : ℕ → Bool) (ok : storeOk old ≡ true)
+    (good : verdict cand ≡ Good t d n k) (legal : Legal old list cand t start e) where
   abbrev new : List ℕ
   new = outcomeBytes old t cand start e
 
   left : After old new cand t d n k start e
-  left = outcome-after old signatures platforms cand t d n k start e ok good legal
+  left = outcome-after old list cand t d n k start e ok good legal
 
   -- the bytes of the update at block b, in the whole store and by themselves
   stands-same : (b j : ℕ) → slotAt old b ≡ Update j → allBelow (sizeAt old b * 2048) (sameByte old new b) ≡ true → Same (fromBlock old b) (fromBlock new b) (j * 2048)
@@ -92,7 +92,7 @@ module _ (old signatures platforms cand : List ℕ) (t d n k start : ℕ) (e : �
       eq-eqb _ _ (sym (getD-drop (b * 2048) old i 0) ∙ h i (rw slot at l) ∙ getD-drop (b * 2048) new i 0))
 
   -- an old update at the start doesn't have the bytes that stand there now, which are the candidate's
-  start-gone : coversOne signatures platforms cand ≡ true → outdated old cand ≡ false → start < blockCount old → first old start ≡ true
+  start-gone : coversOne list cand ≡ true → outdated old cand ≡ false → start < blockCount old → first old start ≡ true
       → allBelow (sizeAt old start * 2048) (sameByte old new start) ≡ true → ⊥
   unfolding slotAt blocksOf
   start-gone present newer l f h =
@@ -105,7 +105,7 @@ module _ (old signatures platforms cand : List ℕ) (t d n k start : ℕ) (e : �
       let lent : t ≤ length v = omega (arith, slot-inside v (blocksOf t) (left .placed) .2) in
       let alike = same-covers u v cand (j .0) t d n k (j .1) same long good (left .bytes) lent in
       let rev = same-revision u v cand (j .0) t d n k (j .1) same long good (left .bytes) lent in
-      true≢false (sym (not-newer old signatures platforms cand start ok l f present alike rev) ∙ newer)
+      true≢false (sym (not-newer old list cand start ok l f present alike rev) ∙ newer)
 
   module _ (b : ℕ) (l : b < blockCount old) (f : first old b ≡ true) where
     pub kept-stands : e b ≡ false → standsAt old new b ≡ true
@@ -115,7 +115,7 @@ module _ (old signatures platforms cand : List ℕ) (t d n k start : ℕ) (e : �
         let q = kept-made old e b f h in
         and-made (left .firsts b l ∙ rw q) (same-stands b (j .0) (j .1) (left .stays b (j .0) l q (j .1) .1))
 
-    pub emptied-gone : coversOne signatures platforms cand ≡ true → outdated old cand ≡ false → e b ≡ true → standsAt old new b ≡ false
+    pub emptied-gone : coversOne list cand ≡ true → outdated old cand ≡ false → e b ≡ true → standsAt old new b ≡ false
     unfolding standsAt after kept
     emptied-gone present newer h =
         no-true (standsAt old new b) (λ w.
@@ -124,7 +124,7 @@ module _ (old signatures platforms cand : List ℕ) (t d n k start : ℕ) (e : �
         let q : b ≡ start = eqb-true b start y in
         start-gone present newer (rw q at l) (rw q at f) (ap (λ (c : ℕ). allBelow (sizeAt old c * 2048) (sameByte old new c)) (sym q) ∙ x .1))
 
-  pub gone-count : coversOne signatures platforms cand ≡ true → outdated old cand ≡ false → emptiedCount old e ≡ countBelow (blockCount old) (goneAt old new)
+  pub gone-count : coversOne list cand ≡ true → outdated old cand ≡ false → emptiedCount old e ≡ countBelow (blockCount old) (goneAt old new)
   unfolding emptiedCount storedIn goneAt
   gone-count present newer = count-cong (storedIn old e) (goneAt old new) (blockCount old) (λ b l. go b l (first old b) refl (e b) refl)
     where

@@ -11,3 +11,4 @@ pub mod Gone
 pub mod Answered
 pub mod Theorem
 pub mod WriteCases
+pub mod Refusals

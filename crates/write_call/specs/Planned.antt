@@ -1,15 +1,15 @@
 -- What it says that checks 1 to 8 let a write pass (document 01, "The calls", 1).
---   held-laid        the stored updates lie as the choice of a run wants them
+--   stored-laid        the stored updates lie as the choice of a run wants them
 --   passed           a check that doesn't refuse
 --   Planned          the facts that a start and an emptied count come with
---   plan-written     they hold where the plan answers with the two numbers
+--   plan-run         they hold where the plan is a run
 use Prim.Native.Nat.{ℕ, _+_, _≤_}
 use mathlib.Core.Path.{_≡_, refl, sym, ap, _∙_}
 use mathlib.Core.Bool.{Bool, true, false, not}
 use mathlib.Core.List.{List}
-use native.Mathlib.Omega.{arith}
 use lib.ListN.{length}
 use borrow.Author.Tests.{not-true}
+use Rattle.laws.specs.Orders.{impossible}
 use Rattle.laws.specs.Below.{anyBelow}
 use Rattle.laws.specs.Count.{countBelow}
 use Rattle.laws.specs.Least.{Pick, nowhere, at}
@@ -23,77 +23,77 @@ use Rattle.update_verdict.specs.declared.Verdict.the-variants.{Good, BadHeader,
 use Rattle.store_blocks.specs.Blocks.{blockCount}
 use Rattle.store_directory.specs.Scan.{storeOk, directory}
 use Rattle.store_directory.specs.DirectoryLaws.{Listing, listing}
-use Rattle.write_marks.specs.Held.{Held, Laid}
-use Rattle.write_marks.specs.Against.{torn}
+use Rattle.write_marks.specs.StoredUpdates.{StoredUpdates, Laid}
+use Rattle.write_marks.specs.Against.{bothMarks}
 use Rattle.write_placement.specs.Choose.{choose}
 use Rattle.write_placement.specs.Best.{choose-some}
-use Rattle.processor_list.specs.Processors.{listOk, coversOne}
-use Rattle.call_answers.specs.Answers.{refusal}
-use Rattle.call_answers.specs.declared.answer.Answer.{Answer}
-use Rattle.call_answers.specs.declared.answer.Written.{Written as WrittenNumbers}
-use Rattle.call_answers.specs.declared.answer.Answer.the-variants.{Written}
-use Rattle.write_plan.specs.CandidateMarks.{heldIn, outdated}
+use Rattle.processor_list.specs.Processors.{ProcessorList, listOk, coversOne}
+use Rattle.call_answers.specs.Codes.{READ-FAILURE, STORAGE-FULL, CPU-NOT-PRESENT, INVALID-REVISION, none, bad-store, bad-processors, sharing-needed}
+use Rattle.write_plan.specs.declared.Plan.{Plan}
+use Rattle.write_plan.specs.declared.Plan.the-variants.{Run, Refuse}
+use Rattle.write_plan.specs.CandidateMarks.{storedUpdates, outdated}
 use Rattle.write_plan.specs.Plan.{placed}
-use Rattle.write_call.specs.Write.{goodAnswer, judgedAnswer, planAnswer}
+use Rattle.write_call.specs.Write.{goodPlan, judgedPlan, writePlan}
 
-pub held-laid : (old signatures platforms cand : List ℕ) → storeOk old ≡ true → Laid (blockCount old) (heldIn old signatures platforms cand)
-unfolding heldIn
-held-laid old signatures platforms cand ok =
+pub stored-laid : (old : List ℕ) (list : ProcessorList) (cand : List ℕ) → storeOk old ≡ true → Laid (blockCount old) (storedUpdates old list cand)
+unfolding storedUpdates
+stored-laid old list cand ok =
     let d : Listing old (directory old) = listing old ok (directory old) refl in
     record { some = d .some; inside = d .ends; apart = λ i j l m. d .order j i l m }
 
 -- a check t that refuses with the codes ah and al
-pub passed : (t : Bool) (ah al : ℕ) (rest : Answer) (a : WrittenNumbers) → unless t (refusal ah al) rest ≡ Written a → (t ≡ true) × (rest ≡ Written a)
+pub passed : (t : Bool) (ah al : ℕ) (rest : Plan) (start emptied : ℕ) → unless t (Refuse ah al) rest ≡ Run start emptied → (t ≡ true) × (rest ≡ Run start emptied)
 unfolding unless
-passed true ah al rest a e = (refl, e)
-passed false ah al rest a e = absurd (let z : _≡_ {A = ℕ} 0 1 = cc in omega arith)
+passed true ah al rest start emptied e = (refl, e)
+passed false ah al rest start emptied e = absurd (impossible (cc))
 
-pub record Planned (old signatures platforms cand : List ℕ) (a : WrittenNumbers) : Type 0 where
+pub record Planned (old : List ℕ) (list : ProcessorList) (cand : List ℕ) (start emptied : ℕ) : Type 0 where
   pub store : storeOk old ≡ true
-  pub list : listOk signatures platforms ≡ true
+  pub good-list : listOk list ≡ true
   -- data size and entries of the candidate
   pub «data» : ℕ
   pub entries : ℕ
   pub good : verdict cand ≡ Good (totalSize cand) «data» entries (blocksOf (totalSize cand))
-  pub present : coversOne signatures platforms cand ≡ true
+  pub present : coversOne list cand ≡ true
   pub newer : outdated old cand ≡ false
   -- how many are touched and don't share
   pub touched : ℕ
-  pub chosen : choose (blockCount old) (blocksOf (totalSize cand)) (heldIn old signatures platforms cand) ≡ at (a .start) touched
-  pub emptied : a .emptied ≡ countBelow (heldIn old signatures platforms cand .count) (heldIn old signatures platforms cand .shares) + touched
+  pub chosen : choose (blockCount old) (blocksOf (totalSize cand)) (storedUpdates old list cand) ≡ at start touched
+  pub count : emptied ≡ countBelow (storedUpdates old list cand .count) (storedUpdates old list cand .shares) + touched
   -- the run lies in the store, and the candidate's bytes are lent and few
-  pub ends : a .start + blocksOf (totalSize cand) ≤ blockCount old
+  pub ends : start + blocksOf (totalSize cand) ≤ blockCount old
   pub whole : totalSize cand ≤ length cand
   pub small : totalSize cand ≤ 32768
 
-placed-written : (h : Held) (p : Pick) (a : WrittenNumbers) → placed h p ≡ Written a
-    → (c : ℕ) × (p ≡ at (a .start) c) × (a .emptied ≡ countBelow (h .count) (h .shares) + c)
+placed-run : (h : StoredUpdates) (p : Pick) (start emptied : ℕ) → placed h p ≡ Run start emptied
+    → (c : ℕ) × (p ≡ at start c) × (emptied ≡ countBelow (h .count) (h .shares) + c)
 unfolding placed
-placed-written h nowhere a e = absurd (let z : _≡_ {A = ℕ} 0 1 = cc in omega arith)
-placed-written h (at start c) a e =
-    let f : record { start = start; emptied = countBelow (h .count) (h .shares) + c } ≡ a = cc in
-    (c, ap (λ (x : WrittenNumbers). at (x .start) c) f, ap (λ (x : WrittenNumbers). x .emptied) (sym f))
+placed-run h nowhere start emptied e = absurd (impossible (cc))
+placed-run h (at s c) start emptied e =
+    let f : s ≡ start = cc in
+    let g : countBelow (h .count) (h .shares) + c ≡ emptied = cc in
+    (c, rw f, sym g)
 
-module _ (old signatures platforms cand : List ℕ) (a : WrittenNumbers) (store : storeOk old ≡ true) (list : listOk signatures platforms ≡ true) where
-  abbrev h : Held
-  h = heldIn old signatures platforms cand
+module _ (old : List ℕ) (list : ProcessorList) (cand : List ℕ) (start emptied : ℕ) (store : storeOk old ≡ true) (good-list : listOk list ≡ true) where
+  abbrev h : StoredUpdates
+  h = storedUpdates old list cand
 
-  good-written : (d n : ℕ) → verdict cand ≡ Good (totalSize cand) d n (blocksOf (totalSize cand))
-      → goodAnswer old signatures platforms cand (blocksOf (totalSize cand)) ≡ Written a → Planned old signatures platforms cand a
-  unfolding goodAnswer
-  good-written d n v e =
+  good-run : (d n : ℕ) → verdict cand ≡ Good (totalSize cand) d n (blocksOf (totalSize cand))
+      → goodPlan old list cand (blocksOf (totalSize cand)) ≡ Run start emptied → Planned old list cand start emptied
+  unfolding goodPlan
+  good-run d n v e =
       let t = totalSize cand in
       let k = blocksOf t in
       let choice = placed h (choose (blockCount old) k h) in
-      let whole = unless (not (anyBelow (h .count) (torn h))) (refusal 0x93 4) choice in
-      let x = passed (coversOne signatures platforms cand) 0x94 0 (unless (not (outdated old cand)) (refusal 0x98 0) whole) a e in
-      let y = passed (not (outdated old cand)) 0x98 0 whole a (x .1) in
-      let z = passed (not (anyBelow (h .count) (torn h))) 0x93 4 choice a (y .1) in
-      let w = placed-written h (choose (blockCount old) k h) a (z .1) in
-      let best = choose-some (blockCount old) k h (good-blocks cand t d n k v) (held-laid old signatures platforms cand store) (a .start) (w .0) (w .1) in
+      let whole = unless (not (anyBelow (h .count) (bothMarks h))) (Refuse STORAGE-FULL sharing-needed) choice in
+      let x = passed (coversOne list cand) CPU-NOT-PRESENT none (unless (not (outdated old cand)) (Refuse INVALID-REVISION none) whole) start emptied e in
+      let y = passed (not (outdated old cand)) INVALID-REVISION none whole start emptied (x .1) in
+      let z = passed (not (anyBelow (h .count) (bothMarks h))) STORAGE-FULL sharing-needed choice start emptied (y .1) in
+      let w = placed-run h (choose (blockCount old) k h) start emptied (z .1) in
+      let best = choose-some (blockCount old) k h (good-blocks cand t d n k v) (stored-laid old list cand store) start (w .0) (w .1) in
       record {
         store = store;
-        list = list;
+        good-list = good-list;
         «data» = d;
         entries = n;
         good = v;
@@ -101,24 +101,24 @@ module _ (old signatures platforms cand : List ℕ) (a : WrittenNumbers) (store 
         newer = not-true _ (y .0);
         touched = w .0;
         chosen = w .1;
-        emptied = w .2;
+        count = w .2;
         ends = best .0 .legal .ends;
         whole = good-size cand t d n k v .2;
         small = good-size cand t d n k v .1;
       }
 
-  judged-written : (v : Verdict) → verdict cand ≡ v → judgedAnswer old signatures platforms cand v ≡ Written a → Planned old signatures platforms cand a
-  unfolding judgedAnswer
-  judged-written (Good t d n k) v e =
+  judged-run : (v : Verdict) → verdict cand ≡ v → judgedPlan old list cand v ≡ Run start emptied → Planned old list cand start emptied
+  unfolding judgedPlan
+  judged-run (Good t d n k) v e =
       let j = judged cand t d n k v in
       let q : k ≡ blocksOf (totalSize cand) = j .blocks ∙ ap blocksOf (j .total) in
-      good-written d n (v ∙ rw (j .total, q)) (rw q at e)
-  judged-written BadHeader v e = absurd (let z : _≡_ {A = ℕ} 0 1 = cc in omega arith)
-  judged-written BadSum v e = absurd (let z : _≡_ {A = ℕ} 0 1 = cc in omega arith)
+      good-run d n (v ∙ rw (j .total, q)) (rw q at e)
+  judged-run BadHeader v e = absurd (impossible (cc))
+  judged-run BadSum v e = absurd (impossible (cc))
 
-pub plan-written : (old signatures platforms cand : List ℕ) (a : WrittenNumbers) → planAnswer old signatures platforms cand ≡ Written a → Planned old signatures platforms cand a
-unfolding planAnswer
-plan-written old signatures platforms cand a e =
-    let x = passed (storeOk old) 0x92 1 (unless (listOk signatures platforms) (refusal 0x92 2) (judgedAnswer old signatures platforms cand (verdict cand))) a e in
-    let y = passed (listOk signatures platforms) 0x92 2 (judgedAnswer old signatures platforms cand (verdict cand)) a (x .1) in
-    judged-written old signatures platforms cand a (x .0) (y .0) (verdict cand) refl (y .1)
+pub plan-run : (old : List ℕ) (list : ProcessorList) (cand : List ℕ) (start emptied : ℕ) → writePlan old list cand ≡ Run start emptied → Planned old list cand start emptied
+unfolding writePlan
+plan-run old list cand start emptied e =
+    let x = passed (storeOk old) READ-FAILURE bad-store (unless (listOk list) (Refuse READ-FAILURE bad-processors) (judgedPlan old list cand (verdict cand))) start emptied e in
+    let y = passed (listOk list) READ-FAILURE bad-processors (judgedPlan old list cand (verdict cand)) start emptied (x .1) in
+    judged-run old list cand start emptied (x .0) (y .0) (verdict cand) refl (y .1)

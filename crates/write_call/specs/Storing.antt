@@ -1,6 +1,6 @@
 -- The storing step: from the marks beside the directory to the bytes of the outcome.
 --   Storing         what the step may go by
---   Storable        it may, where the answer of checks 1 to 8 is a start and a count
+--   Storable        it may, where the plan is a run
 --   planned-storable, storing     so it is after checks 1 to 8
 --   entries-for     the arrays list updates of the store
 --   stored-bytes    the bytes that are written are the outcome's
@@ -10,6 +10,7 @@ use mathlib.Core.Path.{_≡_, refl, sym, ap, _∙_}
 use mathlib.Core.Bool.{Bool, true, false, _&&_, true≢false}
 use lib.Dec.{leb}
 use borrow.Author.Tests.{leb-true}
+use Rattle.processor_list.specs.Processors.{ProcessorList}
 use Rattle.laws.specs.Bools.{and-parts, no-true}
 use mathlib.Core.List.{List, []}
 use native.Mathlib.Omega.{arith}
@@ -23,21 +24,20 @@ use Rattle.store_blocks.specs.Blocks.{blockCount}
 use Rattle.store_directory.specs.Scan.{sizeAt, first, storeOk, directory}
 use Rattle.store_directory.specs.Valid.{Owned}
 use Rattle.store_directory.specs.ValidLaws.{store-valid}
-use Rattle.store_directory.specs.DirectoryLaws.{startOf, sizeOf, Listing, listing}
-use Rattle.write_marks.specs.Against.{touches, within, fills}
-use Rattle.write_marks.specs.Against as choice
-use Rattle.write_marks.specs.StoredMarks.{held, marksOf}
+use Rattle.store_directory.specs.DirectoryEntries.{startOf, sizeOf}
+use Rattle.store_directory.specs.DirectoryLaws.{Listing, listing}
+use Rattle.write_marks.specs.Against.{touchesByNumber, emptiedByNumber, within, fills}
+use Rattle.write_marks.specs.StoredMarks.{storedOf, marksOf}
 use Rattle.write_marks.specs.declared.Marked.{Marked}
 use Rattle.write_outcome.specs.OutcomeBytes.{inRun, clearedByte, outcomeByte, outcomeBytes}
 use Rattle.write_outcome.specs.ByteLaws.{emptied-same, at-run, outcome-length, getD-tabulate}
 use Rattle.write_outcome.specs.EmptiedEntries.{marked, Entries, entries-of, marked-at}
-use Rattle.call_answers.specs.declared.answer.Answer.{Answer}
-use Rattle.call_answers.specs.declared.answer.Written.{Written as WrittenNumbers}
-use Rattle.call_answers.specs.declared.answer.Answer.the-variants.{Written}
+use Rattle.write_plan.specs.declared.Plan.{Plan}
+use Rattle.write_plan.specs.declared.Plan.the-variants.{Run}
 use Rattle.write_plan.specs.CandidateMarks.{sharesEntry}
-use Rattle.write_plan.specs.CandidateMarkLaws.{Shared, Marks}
-use Rattle.write_call.specs.Write.{touched, goes, goodAnswer, planAnswer}
-use Rattle.write_call.specs.Planned.{plan-written}
+use Rattle.write_plan.specs.RightMarks.{Shared, Marks}
+use Rattle.write_call.specs.Write.{touchedAt, emptiedAt, goodPlan, writePlan}
+use Rattle.write_call.specs.Planned.{plan-run}
 
 pub record Storing (old cand : List ℕ) (m : Marked) (start : ℕ) : Type 0 where
   pub ok : storeOk old ≡ true
@@ -47,19 +47,19 @@ pub record Storing (old cand : List ℕ) (m : Marked) (start : ℕ) : Type 0 whe
   pub small : totalSize cand ≤ 32768
   pub ends : start + blocksOf (totalSize cand) ≤ blockCount old
 
--- p is the answer of checks 1 to 8: where it is a start and a count, the step may go by them
-unfoldable pub Storable : List ℕ → List ℕ → Marked → Answer → Type 0
-Storable old cand m p = (w : WrittenNumbers) → p ≡ Written w → Storing old cand m (w .start)
+-- p is the plan: where it is a run, the step may go by it
+unfoldable pub Storable : List ℕ → List ℕ → Marked → Plan → Type 0
+Storable old cand m p = (start emptied : ℕ) → p ≡ Run start emptied → Storing old cand m start
 
-pub storing : (old cand : List ℕ) (m : Marked) (p : Answer) (w : WrittenNumbers) → Storable old cand m p → p ≡ Written w → Storing old cand m (w .start)
+pub storing : (old cand : List ℕ) (m : Marked) (p : Plan) (start emptied : ℕ) → Storable old cand m p → p ≡ Run start emptied → Storing old cand m start
 unfolding Storable
-storing old cand m p w y h = y w h
+storing old cand m p start emptied y h = y start emptied h
 
-pub planned-storable : (old signatures platforms cand : List ℕ) (p : Answer) (m : Marked) (k : ℕ) → goodAnswer old signatures platforms cand k ≡ planAnswer old signatures platforms cand
-    → p ≡ goodAnswer old signatures platforms cand k → Marks old signatures platforms cand m → Storable old cand (marksOf (m .starts) (m .sizes) (m .shares) [] (m .count)) p
+pub planned-storable : (old : List ℕ) (list : ProcessorList) (cand : List ℕ) (p : Plan) (m : Marked) (k : ℕ) → goodPlan old list cand k ≡ writePlan old list cand
+    → p ≡ goodPlan old list cand k → Marks old list cand m → Storable old cand (marksOf (m .starts) (m .sizes) (m .shares) [] (m .count)) p
 unfolding Storable
-planned-storable old signatures platforms cand p m k e f y w h =
-    let x = plan-written old signatures platforms cand w (sym e ∙ sym f ∙ h) in
+planned-storable old list cand p m k e f y start emptied h =
+    let x = plan-run old list cand start emptied (sym e ∙ sym f ∙ h) in
     record { ok = x .store; shared = y .shared; sizes = y .sizes; whole = x .whole; small = x .small; ends = x .ends }
 
 -- a set of first blocks matters only at the updates that own a block outside the run
@@ -88,17 +88,17 @@ module _ (old cand : List ℕ) (m : Marked) (start : ℕ) (y : Storing old cand 
   pub entries-for : Entries old (m .starts) (m .sizes) (m .count)
   entries-for = rw (y .shared .starts-are, y .sizes, y .shared .count-is) (entries-of old (directory old) entries long)
 
-  -- an update that goes by its number goes by its first block
-  goes-entry : (k i : ℕ) → k ≡ blocksOf (totalSize cand) → i < m .count → choice.goes (held m) k start i ≡ goes old cand start (startOf (directory old) i)
-  unfolding choice.goes touches held goes touched sharesEntry
-  goes-entry k i e l =
+  -- an update that is emptied by its number is emptied by its first block
+  emptied-entry : (k i : ℕ) → k ≡ blocksOf (totalSize cand) → i < m .count → emptiedByNumber (storedOf m) k start i ≡ emptiedAt old cand start (startOf (directory old) i)
+  unfolding emptiedByNumber touchesByNumber storedOf emptiedAt touchedAt sharesEntry
+  emptied-entry k i e l =
       let n : i < directory old .count = rw (y .shared .count-is) at l in
       rw (y .shared .marks .each i l, y .shared .starts-are, y .sizes, entries .sized i n, e)
 
   -- one with a block outside the run is not overwritten whole
   fills-entry : (k i c : ℕ) → k ≡ blocksOf (totalSize cand) → i < m .count → inRun start k c ≡ false → startOf (directory old) i ≤ c → c < startOf (directory old) i + sizeAt old (startOf (directory old) i)
-      → fills (held m) k start i ≡ goes old cand start (startOf (directory old) i)
-  unfolding fills within held choice.goes
+      → fills (storedOf m) k start i ≡ emptiedAt old cand start (startOf (directory old) i)
+  unfolding fills within storedOf emptiedByNumber
   fills-entry k i c e l out from upto =
       let n : i < directory old .count = rw (y .shared .count-is) at l in
       let z : leb start (getD (m .starts) i 0) && leb (getD (m .starts) i 0 + getD (m .sizes) i 0) (start + k) ≡ false =
@@ -107,15 +107,15 @@ module _ (old cand : List ℕ) (m : Marked) (start : ℕ) (y : Storing old cand 
       let b : startOf (directory old) i + sizeOf (directory old) i ≤ start + k = rw (y .shared .starts-are, y .sizes) at (leb-true (getD (m .starts) i 0 + getD (m .sizes) i 0) (start + k) (w .1)) in
       let u : startOf (directory old) i + sizeAt old (startOf (directory old) i) ≤ start + k = rw (← entries .sized i n) b in
       true≢false (sym (at-run start k c (omega arith) (omega arith)) ∙ out)) in
-      rw z (goes-entry k i e l)
+      rw z (emptied-entry k i e l)
 
-  pub stored-bytes : (t k : ℕ) (marks : List Bool) (r : List ℕ) → t ≡ totalSize cand → k ≡ blocksOf t → Filled false 32 (fills (held m) k start) (m .count) marks
-      → r ≡ outcomeBytes old t cand start (marked (m .starts) marks (m .count)) → r ≡ outcomeBytes old (totalSize cand) cand start (goes old cand start)
+  pub stored-bytes : (t k : ℕ) (marks : List Bool) (r : List ℕ) → t ≡ totalSize cand → k ≡ blocksOf t → Filled false 32 (fills (storedOf m) k start) (m .count) marks
+      → r ≡ outcomeBytes old t cand start (marked (m .starts) marks (m .count)) → r ≡ outcomeBytes old (totalSize cand) cand start (emptiedAt old cand start)
   stored-bytes t k marks r e f g h =
-      h ∙ rw e (outcome-same old (totalSize cand) cand start (marked (m .starts) marks (m .count)) (goes old cand start)
+      h ∙ rw e (outcome-same old (totalSize cand) cand start (marked (m .starts) marks (m .count)) (emptiedAt old cand start)
       (λ b c l out o. at-owned b c (omega (arith, o .from)) out o) long)
     where
-      at-owned : (b c : ℕ) → b < blockCount old → inRun start (blocksOf (totalSize cand)) c ≡ false → Owned old (first old) b c → marked (m .starts) marks (m .count) b ≡ goes old cand start b
+      at-owned : (b c : ℕ) → b < blockCount old → inRun start (blocksOf (totalSize cand)) c ≡ false → Owned old (first old) b c → marked (m .starts) marks (m .count) b ≡ emptiedAt old cand start b
       at-owned b c l out o =
           let w = entries .every b l (o .at) in
           let n : w .0 < m .count = omega (arith, w .1, y .shared .count-is) in
@@ -124,7 +124,7 @@ module _ (old cand : List ℕ) (m : Marked) (start : ℕ) (y : Storing old cand 
           ∙ ap (marked (directory old .starts) marks (directory old .count)) (sym (w .2))
           ∙ marked-at old (directory old) marks entries (w .0) (w .1) ∙ g .each (w .0) n
           ∙ fills-entry k (w .0) c q n (rw q out) (rw (w .2) (o .from)) (rw (w .2) (o .upto))
-          ∙ ap (goes old cand start) (w .2)
+          ∙ ap (emptiedAt old cand start) (w .2)
 
   pub run-inside : (t : ℕ) → t ≡ totalSize cand → (start + blocksOf t) * 2048 ≤ length old
   run-inside t e = rw e (omega (arith, y .ends, long))

@@ -4,6 +4,7 @@
 use Prim.Native.Nat.{ℕ}
 use mathlib.Core.Path.{_≡_, refl, _∙_}
 use mathlib.Core.List.{List}
+use Rattle.processor_list.specs.Processors.{ProcessorList}
 use Rattle.laws.specs.Bools.{no-true}
 use Rattle.update_header.specs.Fields.{totalSize}
 use Rattle.update_sizes.specs.Sizes.{blocksOf}
@@ -13,24 +14,23 @@ use Rattle.write_outcome.specs.After.{after}
 use Rattle.write_outcome.specs.AfterLaws.{outcome-after}
 use Rattle.write_outcome.specs.KeptLaws.{kept-made}
 use Rattle.call_answers.specs.declared.answer.Answer.{Answer}
-use Rattle.call_answers.specs.declared.answer.Written.{Written as WrittenNumbers}
-use Rattle.write_call.specs.Write.{goes, bytesAfter, writeAnswer, writeBytes}
+use Rattle.write_call.specs.Write.{emptiedAt, writeAnswer, writeBytes}
 use Rattle.write_call.specs.Demand.{Passes, Accepted, Demand3}
-use Rattle.write_call.specs.Planned.{Planned, plan-written}
+use Rattle.write_call.specs.Planned.{Planned, plan-run}
 use Rattle.write_call.specs.Chosen.{planned-best}
 use Rattle.write_call.specs.Gone.{gone-count}
-use Rattle.write_call.specs.Answered.{answer-plan, full-none, none-full, accepts-back, back-accepts}
+use Rattle.write_call.specs.Answered.{answer-plan, answer-bytes, full-none, none-full, accepts-back, back-accepts}
 
-pub planned-accepted : (old signatures platforms cand : List ℕ) (a : WrittenNumbers) → Planned old signatures platforms cand a
-    → Accepted old signatures platforms cand (a .start) (a .emptied) (outcomeBytes old (totalSize cand) cand (a .start) (goes old cand (a .start)))
+pub planned-accepted : (old : List ℕ) (list : ProcessorList) (cand : List ℕ) (start emptied : ℕ) → Planned old list cand start emptied
+    → Accepted old list cand start emptied (outcomeBytes old (totalSize cand) cand start (emptiedAt old cand start))
 unfolding after
-planned-accepted old signatures platforms cand a plan =
-    let set = goes old cand (a .start) in
+planned-accepted old list cand start emptied plan =
+    let set = emptiedAt old cand start in
     let t = totalSize cand in
     let k = blocksOf t in
-    let best = planned-best old signatures platforms cand a plan in
-    let new = outcomeBytes old t cand (a .start) set in
-    let left = outcome-after old signatures platforms cand t (plan .data) (plan .entries) k (a .start) set (plan .store) (plan .good) (best .legal) in
+    let best = planned-best old list cand start emptied plan in
+    let new = outcomeBytes old t cand start set in
+    let left = outcome-after old list cand t (plan .data) (plan .entries) k start set (plan .store) (plan .good) (best .legal) in
     record {
       set = set;
       legal = best .legal;
@@ -42,22 +42,23 @@ planned-accepted old signatures platforms cand a plan =
       needed = λ b l f w. no-true (set b) (λ e. best .legal .spares b l f w e);
       valid = valid-law new .0 (left .ok);
       gone = best .counts
-          ∙ gone-count old signatures platforms cand t (plan .data) (plan .entries) k (a .start) set (plan .store) (plan .good) (best .legal) (plan .present) (plan .newer);
+          ∙ gone-count old list cand t (plan .data) (plan .entries) k start set (plan .store) (plan .good) (best .legal) (plan .present) (plan .newer);
     }
 
-pub demand3 : (old signatures platforms cand : List ℕ) (back : ℕ) → Passes old signatures platforms cand
-    → Demand3 old signatures platforms cand back (writeAnswer old signatures platforms cand back) (writeBytes old signatures platforms cand back)
-unfolding writeBytes bytesAfter
-demand3 old signatures platforms cand back pass = record {
-  full = (full-none old signatures platforms cand pass back, none-full old signatures platforms cand pass back);
+pub demand3 : (old : List ℕ) (list : ProcessorList) (cand : List ℕ) (back : ℕ) → Passes old list cand
+    → Demand3 old list cand back (writeAnswer old list cand back) (writeBytes old list cand back)
+demand3 old list cand back pass = record {
+  full = (full-none old list cand pass back, none-full old list cand pass back);
   accepts = λ start e legal. (
-    λ w. accepts-back old signatures platforms cand pass back start e legal (w .0) (w .1),
-    back-accepts old signatures platforms cand pass back start e legal,
+    λ w. accepts-back old list cand pass back start e legal (w .0) (w .1),
+    back-accepts old list cand pass back start e legal,
   );
-  accepted = λ a q. rw q (planned-accepted old signatures platforms cand a (plan-written old signatures platforms cand a (answer-plan old signatures platforms cand back a q)));
+  accepted = λ a q.
+      rw (answer-bytes old list cand back a q)
+      (planned-accepted old list cand (a .start) (a .emptied) (plan-run old list cand (a .start) (a .emptied) (answer-plan old list cand back a q)));
 }
 
 -- the same of an answer and a store that a call gave
-pub demanded : (old signatures platforms cand : List ℕ) (back : ℕ) (r : Answer) (new : List ℕ) → r ≡ writeAnswer old signatures platforms cand back → new ≡ writeBytes old signatures platforms cand back
-    → Passes old signatures platforms cand → Demand3 old signatures platforms cand back r new
-demanded old signatures platforms cand back r new e f p = rw (e, f) (demand3 old signatures platforms cand back p)
+pub demanded : (old : List ℕ) (list : ProcessorList) (cand : List ℕ) (back : ℕ) (r : Answer) (new : List ℕ) → r ≡ writeAnswer old list cand back → new ≡ writeBytes old list cand back
+    → Passes old list cand → Demand3 old list cand back r new
+demanded old list cand back r new e f p = rw (e, f) (demand3 old list cand back p)

@@ -1,15 +1,16 @@
 -- What the write answers, and the bytes that it leaves (document 01, "The calls", 1): each code exactly when its rule says, in the order 1 to 9.
---   goodAnswer      checks 5 to 8 of a candidate that passes checks 2 to 4
---   judgedAnswer    checks 2 to 8
---   planAnswer      checks 1 to 8: a refusal, or the start and the emptied count
---   readBack        check 9, on an answer of checks 1 to 8
+--   goodPlan        checks 5 to 8 of a candidate that passes checks 2 to 4
+--   judgedPlan      checks 2 to 8
+--   writePlan       checks 1 to 8: a run, or the codes of the check that refuses
+--   written         the answer with a start block and an emptied count
+--   answered        check 9, and the answer of a plan
 --   writeAnswer     all of them
---   touched         the run from `start` touches the update at block b
---   goes            the update at block b is emptied: it shares, wherever it lies, or the run touches it
---   bytesAfter      the store after an answer
+--   touchedAt       the run from `start` touches the update at block b
+--   emptiedAt       the update at block b is emptied: it shares, wherever it lies, or the run touches it
+--   bytesAfter      the store after a plan and check 9
 --   writeBytes      the store afterwards: the outcome's bytes, or the old ones on a refusal
 use Prim.Native.Nat.{ℕ, _+_}
-use mathlib.Core.Bool.{Bool, _&&_, _||_}
+use mathlib.Core.Bool.{Bool, false, _&&_, _||_}
 use mathlib.Core.List.{List}
 use lib.Dec.{ltb, eqb}
 use Rattle.laws.specs.Unless.{unless}
@@ -21,57 +22,59 @@ use Rattle.update_verdict.specs.declared.Verdict.{Verdict}
 use Rattle.update_verdict.specs.declared.Verdict.the-variants.{Good, BadHeader, BadSum}
 use Rattle.store_blocks.specs.Blocks.{fromBlock}
 use Rattle.store_directory.specs.Scan.{sizeAt, storeOk}
-use Rattle.processor_list.specs.Processors.{listOk, coversOne}
+use Rattle.processor_list.specs.Processors.{ProcessorList, listOk, coversOne}
 use Rattle.write_outcome.specs.OutcomeBytes.{outcomeBytes}
+use Rattle.call_answers.specs.Codes.{SUCCESS, READ-FAILURE, CPU-NOT-PRESENT, SECURITY-FAILURE, none, bad-store, bad-processors}
 use Rattle.call_answers.specs.Answers.{refusal}
 use Rattle.call_answers.specs.declared.answer.Answer.{Answer}
-use Rattle.call_answers.specs.declared.answer.Answer.the-variants.{Presence, Written, Control, Read, Refused}
-use Rattle.write_plan.specs.CandidateMarks.{heldIn}
-use Rattle.write_plan.specs.Plan.{markedAnswer}
+use Rattle.call_answers.specs.declared.answer.Answer.the-variants.{Written}
+use Rattle.write_plan.specs.CandidateMarks.{storedUpdates}
+use Rattle.write_plan.specs.Plan.{markedPlan}
+use Rattle.write_plan.specs.VerdictCode.{verdictAh}
+use Rattle.write_plan.specs.declared.Plan.{Plan}
+use Rattle.write_plan.specs.declared.Plan.the-variants.{Run, Refuse}
 
 -- checks 5 to 8
-unfoldable pub goodAnswer : List ℕ → List ℕ → List ℕ → List ℕ → ℕ → Answer
-goodAnswer old signatures platforms cand k =
-    unless (coversOne signatures platforms cand) (refusal 0x94 0)
-    (markedAnswer old cand (heldIn old signatures platforms cand) k)
+unfoldable pub goodPlan : List ℕ → ProcessorList → List ℕ → ℕ → Plan
+goodPlan old list cand k =
+    unless (coversOne list cand) (Refuse CPU-NOT-PRESENT none)
+    (markedPlan old cand (storedUpdates old list cand) k)
 
 -- checks 2 to 8
-unfoldable pub judgedAnswer : List ℕ → List ℕ → List ℕ → List ℕ → Verdict → Answer
-judgedAnswer old signatures platforms cand (Good t d n k) = goodAnswer old signatures platforms cand k
-judgedAnswer old signatures platforms cand BadHeader = refusal 0x95 0
-judgedAnswer old signatures platforms cand BadSum = refusal 0x96 0
+unfoldable pub judgedPlan : List ℕ → ProcessorList → List ℕ → Verdict → Plan
+judgedPlan old list cand (Good t d n k) = goodPlan old list cand k
+judgedPlan old list cand BadHeader = Refuse (verdictAh BadHeader) none
+judgedPlan old list cand BadSum = Refuse (verdictAh BadSum) none
 
 -- checks 1 to 8
-unfoldable pub planAnswer : List ℕ → List ℕ → List ℕ → List ℕ → Answer
-planAnswer old signatures platforms cand =
-    unless (storeOk old) (refusal 0x92 1)
-    (unless (listOk signatures platforms) (refusal 0x92 2)
-    (judgedAnswer old signatures platforms cand (verdict cand)))
+unfoldable pub writePlan : List ℕ → ProcessorList → List ℕ → Plan
+writePlan old list cand =
+    unless (storeOk old) (Refuse READ-FAILURE bad-store)
+    (unless (listOk list) (Refuse READ-FAILURE bad-processors)
+    (judgedPlan old list cand (verdict cand)))
+
+abbrev pub written : ℕ → ℕ → Answer
+written start emptied = Written (record { ah = SUCCESS; al = none; carry = false; start = start; emptied = emptied })
 
 -- check 9: the revision that the processor read back is the candidate's
-unfoldable pub readBack : ℕ → ℕ → Answer → Answer
-readBack back revision (Presence a) = Presence a
-readBack back revision (Written a) = unless (eqb back revision) (refusal 0x97 0) (Written a)
-readBack back revision (Control a) = Control a
-readBack back revision (Read a) = Read a
-readBack back revision (Refused a) = Refused a
+unfoldable pub answered : ℕ → ℕ → Plan → Answer
+answered back revision (Run start emptied) = unless (eqb back revision) (refusal SECURITY-FAILURE none) (written start emptied)
+answered back revision (Refuse ah al) = refusal ah al
 
-unfoldable pub writeAnswer : List ℕ → List ℕ → List ℕ → List ℕ → ℕ → Answer
-writeAnswer old signatures platforms cand back = readBack back (revision cand) (planAnswer old signatures platforms cand)
+unfoldable pub writeAnswer : List ℕ → ProcessorList → List ℕ → ℕ → Answer
+writeAnswer old list cand back = answered back (revision cand) (writePlan old list cand)
 
 -- the run of k blocks from the start touches the update at block b
-unfoldable pub touched : List ℕ → ℕ → ℕ → ℕ → Bool
-touched old k start b = ltb start (b + sizeAt old b) && ltb b (start + k)
+unfoldable pub touchedAt : List ℕ → ℕ → ℕ → ℕ → Bool
+touchedAt old k start b = ltb start (b + sizeAt old b) && ltb b (start + k)
 
-unfoldable pub goes : List ℕ → List ℕ → ℕ → ℕ → Bool
-goes old cand start b = shares (fromBlock old b) cand || touched old (blocksOf (totalSize cand)) start b
+unfoldable pub emptiedAt : List ℕ → List ℕ → ℕ → ℕ → Bool
+emptiedAt old cand start b = shares (fromBlock old b) cand || touchedAt old (blocksOf (totalSize cand)) start b
 
-unfoldable pub bytesAfter : List ℕ → List ℕ → Answer → List ℕ
-bytesAfter old cand (Presence a) = old
-bytesAfter old cand (Written a) = outcomeBytes old (totalSize cand) cand (a .start) (goes old cand (a .start))
-bytesAfter old cand (Control a) = old
-bytesAfter old cand (Read a) = old
-bytesAfter old cand (Refused a) = old
+unfoldable pub bytesAfter : List ℕ → List ℕ → ℕ → Plan → List ℕ
+bytesAfter old cand back (Run start emptied) =
+    unless (eqb back (revision cand)) old (outcomeBytes old (totalSize cand) cand start (emptiedAt old cand start))
+bytesAfter old cand back (Refuse ah al) = old
 
-unfoldable pub writeBytes : List ℕ → List ℕ → List ℕ → List ℕ → ℕ → List ℕ
-writeBytes old signatures platforms cand back = bytesAfter old cand (writeAnswer old signatures platforms cand back)
+unfoldable pub writeBytes : List ℕ → ProcessorList → List ℕ → ℕ → List ℕ
+writeBytes old list cand back = bytesAfter old cand back (writePlan old list cand)

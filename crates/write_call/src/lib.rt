@@ -5,31 +5,36 @@ ghost use Rattle.update_header.specs.Fields.{revision, totalSize};
 ghost use Rattle.store_directory.specs.Scan.{directory};
 ghost use mathlib.Core.List.{[]};
 ghost use Rattle.write_marks.specs.StoredMarks.{marksOf};
-ghost use Rattle.processor_list.specs.Processors.{listOk};
+ghost use Rattle.processor_list.specs.Processors.{listOf, listOk};
 ghost use Rattle.write_outcome.specs.OutcomeBytes.{outcomeBytes};
-ghost use Rattle.write_call.specs.Write.{goes, goodAnswer, planAnswer, readBack, writeAnswer, bytesAfter, writeBytes};
+ghost use Rattle.write_call.specs.Write.{emptiedAt, goodPlan, writePlan, answered, writeAnswer, bytesAfter, writeBytes};
 ghost use Rattle.write_call.specs.Demand.{Passes, Demand3};
 ghost use Rattle.write_call.specs.Storing.{Storing, Storable};
 use call_answers::answer;
 use call_answers::answer::Answer;
+use call_answers::answer::Written;
+use call_answers::code;
+use store_blocks::MOST_BLOCKS;
 use store_directory::Directory;
 use update_header::fields;
 use update_verdict::Verdict;
 use write_outcome::bytes;
+use write_plan::Plan;
 use write_plan::marks;
 
 // Empties all sharing updates, wherever they lie, and all that the run touches, and puts the candidate at the start.
 fn store_candidate<'a>(
     store: &mut [u8],
-    starts: &'a [u8; 32],
-    sizes: &'a [u8; 32],
-    shares: &'a [bool; 32],
+    starts: &'a [u8; MOST_BLOCKS],
+    sizes: &'a [u8; MOST_BLOCKS],
+    shares: &'a [bool; MOST_BLOCKS],
     count: usize,
     start: u32,
     candidate: &[u8],
 )
     requires { ⌜ Storing (now store) (now candidate) (marksOf (now starts) (now sizes) (now shares) [] count) start ⌝ }
-    ensures { λ _. ⌜ now (store .exit) ≡ outcomeBytes (now (store .entry)) (totalSize (now (candidate .entry))) (now (candidate .entry)) start (goes (now (store .entry)) (now (candidate .entry)) start) ⌝ }
+    ensures { λ _. ⌜ now (store .exit) ≡ outcomeBytes (now (store .entry)) (totalSize (now (candidate .entry)))
+        (now (candidate .entry)) start (emptiedAt (now (store .entry)) (now (candidate .entry)) start) ⌝ }
 {
     let t = fields::total_size(candidate);
     let k = update_sizes::blocks_of(t);
@@ -46,35 +51,38 @@ fn store_candidate<'a>(
     );
 }
 
-// Check 9, and the bytes. `planned` is the answer of checks 1 to 8.
+// Check 9, and the bytes.
 fn finish<'a>(
     store: &mut [u8],
-    starts: &'a [u8; 32],
-    sizes: &'a [u8; 32],
-    shares: &'a [bool; 32],
+    starts: &'a [u8; MOST_BLOCKS],
+    sizes: &'a [u8; MOST_BLOCKS],
+    shares: &'a [bool; MOST_BLOCKS],
     count: usize,
-    planned: Answer,
+    plan: Plan,
     candidate: &[u8],
     back: u32,
 ) -> Answer
-    requires { ⌜ Storable (now store) (now candidate) (marksOf (now starts) (now sizes) (now shares) [] count) planned ⌝ }
-    ensures answers { λ r. ⌜ r ≡ readBack back (revision (now (candidate .entry))) planned ⌝ }
-    ensures stores { λ r. ⌜ now (store .exit) ≡ bytesAfter (now (store .entry)) (now (candidate .entry)) r ⌝ }
+    requires { ⌜ Storable (now store) (now candidate) (marksOf (now starts) (now sizes) (now shares) [] count) plan ⌝ }
+    ensures answers { λ r. ⌜ r ≡ answered back (revision (now (candidate .entry))) plan ⌝ }
+    ensures stores { λ r. ⌜ now (store .exit) ≡ bytesAfter (now (store .entry)) (now (candidate .entry)) back plan ⌝ }
 {
-    match planned {
-        Answer::Written(w) => {
+    match plan {
+        Plan::Run { start, emptied } => {
             let revision = fields::revision(candidate);
             if back == revision {
-                store_candidate(store, starts, sizes, shares, count, w.start, candidate);
-                planned
+                store_candidate(store, starts, sizes, shares, count, start, candidate);
+                Answer::Written(Written {
+                    ah: code::SUCCESS,
+                    al: code::NONE,
+                    carry: false,
+                    start,
+                    emptied,
+                })
             } else {
-                answer::refuse(0x97, 0)
+                answer::refuse(code::SECURITY_FAILURE, code::NONE)
             }
         }
-        Answer::Presence(_) => planned,
-        Answer::Control(_) => planned,
-        Answer::Read(_) => planned,
-        Answer::Refused(_) => planned,
+        Plan::Refuse { ah, al } => answer::refuse(ah, al),
     }
 }
 
@@ -88,21 +96,25 @@ fn write_good(
     back: u32,
     k: u32,
 ) -> Answer
-    requires { ⌜ (d ≡ directory (now store)) × (d .ok ≡ true) × (listOk (now signatures) (now platforms) ≡ true) ⌝ }
-    requires { ⌜ goodAnswer (now store) (now signatures) (now platforms) (now candidate) k ≡ planAnswer (now store) (now signatures) (now platforms) (now candidate) ⌝ }
-    ensures answers { λ r. ⌜ r ≡ readBack back (revision (now (candidate .entry))) (goodAnswer (now (store .entry)) (now (signatures .entry)) (now (platforms .entry)) (now (candidate .entry)) k) ⌝ }
-    ensures stores { λ r. ⌜ now (store .exit) ≡ bytesAfter (now (store .entry)) (now (candidate .entry)) r ⌝ }
+    requires { ⌜ (d ≡ directory (now store)) × (d .ok ≡ true) × (listOk (listOf (now signatures) (now platforms)) ≡ true) ⌝ }
+    requires { ⌜ (let list = listOf (now signatures) (now platforms) in
+        goodPlan (now store) list (now candidate) k ≡ writePlan (now store) list (now candidate)) ⌝ }
+    ensures answers { λ r. ⌜ (let list = listOf (now (signatures .entry)) (now (platforms .entry)) in
+        r ≡ answered back (revision (now (candidate .entry))) (goodPlan (now (store .entry)) list (now (candidate .entry)) k)) ⌝ }
+    ensures stores { λ r. ⌜ (let list = listOf (now (signatures .entry)) (now (platforms .entry)) in
+        let old = now (store .entry) in
+        now (store .exit) ≡ bytesAfter old (now (candidate .entry)) back (goodPlan old list (now (candidate .entry)) k)) ⌝ }
 {
     let covered = processor_list::covered(signatures, platforms, candidate);
     if processor_list::covers_one(covered, signatures.len()) {
         let m = marks::mark(store, d, signatures, platforms, covered, candidate);
         let count = m.count;
-        let planned = write_plan::plan_marked(
+        let plan = write_plan::plan_marked(
             store,
             &m.starts,
             &m.sizes,
             &m.shares,
-            &m.keeps,
+            &m.needed,
             count,
             candidate,
             k,
@@ -113,12 +125,12 @@ fn write_good(
             &m.sizes,
             &m.shares,
             count,
-            planned,
+            plan,
             candidate,
             back,
         )
     } else {
-        answer::refuse(0x94, 0)
+        answer::refuse(code::CPU_NOT_PRESENT, code::NONE)
     }
 }
 
@@ -130,9 +142,14 @@ pub fn write(
     candidate: &[u8],
     back: u32,
 ) -> Answer
-    ensures answers { λ r. ⌜ r ≡ writeAnswer (now (store .entry)) (now (signatures .entry)) (now (platforms .entry)) (now (candidate .entry)) back ⌝ }
-    ensures stores { λ r. ⌜ now (store .exit) ≡ writeBytes (now (store .entry)) (now (signatures .entry)) (now (platforms .entry)) (now (candidate .entry)) back ⌝ }
-    ensures demand { λ r. ⌜ (Passes (now (store .entry)) (now (signatures .entry)) (now (platforms .entry)) (now (candidate .entry)) → Demand3 (now (store .entry)) (now (signatures .entry)) (now (platforms .entry)) (now (candidate .entry)) back r (now (store .exit))) ⌝ }
+    ensures answers { λ r. ⌜ (let list = listOf (now (signatures .entry)) (now (platforms .entry)) in
+        r ≡ writeAnswer (now (store .entry)) list (now (candidate .entry)) back) ⌝ }
+    ensures stores { λ r. ⌜ (let list = listOf (now (signatures .entry)) (now (platforms .entry)) in
+        now (store .exit) ≡ writeBytes (now (store .entry)) list (now (candidate .entry)) back) ⌝ }
+    ensures demand { λ r. ⌜ (let list = listOf (now (signatures .entry)) (now (platforms .entry)) in
+        let old = now (store .entry) in
+        let cand = now (candidate .entry) in
+        Passes old list cand → Demand3 old list cand back r (now (store .exit))) ⌝ }
 {
     let d = store_directory::read_store(store);
     let ok = d.ok;
@@ -140,8 +157,8 @@ pub fn write(
         if processor_list::list_ok(signatures, platforms) {
             let checked = update_verdict::check_update(candidate);
             match checked {
-                Verdict::BadHeader => answer::refuse(0x95, 0),
-                Verdict::BadSum => answer::refuse(0x96, 0),
+                Verdict::BadHeader => answer::refuse(code::INVALID_HEADER, code::NONE),
+                Verdict::BadSum => answer::refuse(code::INVALID_HEADER_CS, code::NONE),
                 Verdict::Good {
                     total: _,
                     data: _,
@@ -150,9 +167,9 @@ pub fn write(
                 } => write_good(store, d, signatures, platforms, candidate, back, blocks),
             }
         } else {
-            answer::refuse(0x92, 2)
+            answer::refuse(code::READ_FAILURE, code::BAD_PROCESSORS)
         }
     } else {
-        answer::refuse(0x92, 1)
+        answer::refuse(code::READ_FAILURE, code::BAD_STORE)
     }
 }

@@ -12,9 +12,9 @@ use lib.Dec.{ltb}
 use borrow.Author.Tests.{lt-ltb, le-ltb}
 use Rattle.laws.specs.Count.{countBelow, count-up, count-none, count-yes, count-no}
 use Rattle.laws.specs.Orders.{le-or-lt}
-use Rattle.write_marks.specs.Held.{Held}
+use Rattle.write_marks.specs.StoredUpdates.{StoredUpdates}
 use Rattle.write_marks.specs.Against.{loses, lost}
-use Rattle.write_marks.specs.StoredMarks.{held, marksOf}
+use Rattle.write_marks.specs.StoredMarks.{storedOf, marksOf}
 
 unfoldable pub capped : ℕ → ℕ → ℕ
 capped limit c = cond (ltb c limit) c limit
@@ -28,7 +28,7 @@ unfolding capped
 capped-more limit c l = rw (le-ltb c limit l)
 
 -- the loop: c is the count so far
-module _ (h : Held) (k s limit i c : ℕ) (e : c ≡ countBelow i (loses h k s)) where
+module _ (h : StoredUpdates) (k s limit i c : ℕ) (e : c ≡ countBelow i (loses h k s)) where
   pub lose-stop : (r : Bool) (n : ℕ) → n ≡ h .count → i < n → r ≡ loses h k s i → r ≡ true → limit ≤ c + 1 → limit ≡ capped limit (lost h k s)
   unfolding lost
   lose-stop r n q l f t m =
@@ -48,6 +48,6 @@ module _ (h : Held) (k s limit i c : ℕ) (e : c ≡ countBelow i (loses h k s))
 
 pub ruleset losing = (count-none, count-yes, count-no, lose-stop, lose-done)
 
-pub lost-same : (starts sizes : List ℕ) (shares keeps : List Bool) (count k s : ℕ) → lost (held (marksOf starts sizes shares [] count)) k s ≡ lost (held (marksOf starts sizes shares keeps count)) k s
-unfolding lost loses held
-lost-same starts sizes shares keeps count k s = refl
+pub lost-same : (starts sizes : List ℕ) (shares needed : List Bool) (count k s : ℕ) → lost (storedOf (marksOf starts sizes shares [] count)) k s ≡ lost (storedOf (marksOf starts sizes shares needed count)) k s
+unfolding lost loses storedOf
+lost-same starts sizes shares needed count k s = refl

@@ -1,4 +1,4 @@
-// The held updates against a run of blocks. `k` is the number of blocks that the candidate takes, `s` a start block.
+// The stored updates against a run of blocks. `k` is the number of blocks that the candidate takes, `s` a start block.
 ghost use mathlib.Core.Path.{_≡_};
 ghost use mathlib.Core.Bool.{false, _&&_};
 ghost use mathlib.Core.List.{[]};
@@ -6,36 +6,38 @@ ghost use Prim.Native.Nat.{_≤_};
 ghost use Rattle.laws.specs.Below.{anyBelow};
 ghost use Rattle.laws.specs.Count.{countBelow};
 ghost use Rattle.laws.specs.Arrays.{Filled, markAt};
-ghost use Rattle.write_marks.specs.Against.{fills, barred, lost};
+ghost use Rattle.write_marks.specs.Against.{fills, ruledOut, lost};
 ghost use Rattle.write_marks.specs.Capped.{capped};
-ghost use Rattle.write_marks.specs.StoredMarks.{held, marksOf, bothAt};
+ghost use Rattle.write_marks.specs.StoredMarks.{storedOf, marksOf, bothAt};
+use store_blocks::MOST_BLOCKS;
 
 // The stored updates in the order of their starts: update i < count starts at a block, has a size in blocks, and two marks against the
 // candidate: it covers a processor that the candidate covers; it covers a listed processor that the candidate doesn't.
 pub struct Marked {
-    pub starts: [u8; 32],
-    pub sizes: [u8; 32],
-    pub shares: [bool; 32],
-    pub keeps: [bool; 32],
+    pub starts: [u8; MOST_BLOCKS],
+    pub sizes: [u8; MOST_BLOCKS],
+    pub shares: [bool; MOST_BLOCKS],
+    pub needed: [bool; MOST_BLOCKS],
     pub count: usize,
 }
 
 // Does some update rule the start out?
-pub fn barred<'a>(
-    starts: &'a [u8; 32],
-    sizes: &'a [u8; 32],
-    shares: &'a [bool; 32],
-    keeps: &'a [bool; 32],
+pub fn ruled_out<'a>(
+    starts: &'a [u8; MOST_BLOCKS],
+    sizes: &'a [u8; MOST_BLOCKS],
+    shares: &'a [bool; MOST_BLOCKS],
+    needed: &'a [bool; MOST_BLOCKS],
     count: usize,
     k: u32,
     s: u32,
 ) -> bool
     requires { ⌜ count ≤ 32 ⌝ }
-    ensures { λ r. ⌜ r ≡ barred (held (marksOf (now (starts .entry)) (now (sizes .entry)) (now (shares .entry)) (now (keeps .entry)) count)) k s ⌝ }
+    ensures { λ r. ⌜ r ≡ ruledOut (storedOf (marksOf (now (starts .entry)) (now (sizes .entry)) (now (shares .entry))
+        (now (needed .entry)) count)) k s ⌝ }
 {
     let mut i: usize = 0;
     while i < count {
-        if write_overlap::bars(starts[i], sizes[i], shares[i], keeps[i], k, s) {
+        if write_overlap::rules_out(starts[i], sizes[i], shares[i], needed[i], k, s) {
             return true;
         }
         i += 1;
@@ -45,16 +47,17 @@ pub fn barred<'a>(
 
 // How many updates that do not share does the run touch, up to `limit`? Whether they are needed doesn't matter here.
 pub fn lost<'a>(
-    starts: &'a [u8; 32],
-    sizes: &'a [u8; 32],
-    shares: &'a [bool; 32],
+    starts: &'a [u8; MOST_BLOCKS],
+    sizes: &'a [u8; MOST_BLOCKS],
+    shares: &'a [bool; MOST_BLOCKS],
     count: usize,
     k: u32,
     s: u32,
     limit: u32,
 ) -> u32
     requires { ⌜ count ≤ 32 ⌝ }
-    ensures { λ r. ⌜ r ≡ capped limit (lost (held (marksOf (now (starts .entry)) (now (sizes .entry)) (now (shares .entry)) [] count)) k s) ⌝ }
+    ensures { λ r. ⌜ r ≡ capped limit (lost (storedOf (marksOf (now (starts .entry)) (now (sizes .entry))
+        (now (shares .entry)) [] count)) k s) ⌝ }
 {
     let mut touched: u32 = 0;
     let mut i: usize = 0;
@@ -79,13 +82,17 @@ fn both(a: bool, b: bool) -> bool
 }
 
 // Has some update both marks? Then it rules every start out.
-pub fn torn<'a>(shares: &'a [bool; 32], keeps: &'a [bool; 32], count: usize) -> bool
+pub fn both_marks<'a>(
+    shares: &'a [bool; MOST_BLOCKS],
+    needed: &'a [bool; MOST_BLOCKS],
+    count: usize,
+) -> bool
     requires { ⌜ count ≤ 32 ⌝ }
-    ensures { λ r. ⌜ r ≡ anyBelow count (bothAt (now (shares .entry)) (now (keeps .entry))) ⌝ }
+    ensures { λ r. ⌜ r ≡ anyBelow count (bothAt (now (shares .entry)) (now (needed .entry))) ⌝ }
 {
     let mut i: usize = 0;
     while i < count {
-        if both(shares[i], keeps[i]) {
+        if both(shares[i], needed[i]) {
             return true;
         }
         i += 1;
@@ -94,7 +101,7 @@ pub fn torn<'a>(shares: &'a [bool; 32], keeps: &'a [bool; 32], count: usize) -> 
 }
 
 // How many updates share?
-pub fn shared(shares: &[bool; 32], count: usize) -> u32
+pub fn shared(shares: &[bool; MOST_BLOCKS], count: usize) -> u32
     requires { ⌜ count ≤ 32 ⌝ }
     ensures { λ r. ⌜ r ≡ countBelow count (markAt (now (shares .entry))) ⌝ }
 {
@@ -113,17 +120,18 @@ pub fn shared(shares: &[bool; 32], count: usize) -> u32
 // Marks the updates that must be filled with FFh if the candidate goes to `s`: those that are emptied, but for those that the run overwrites
 // whole.
 pub fn to_fill<'a>(
-    starts: &'a [u8; 32],
-    sizes: &'a [u8; 32],
-    shares: &'a [bool; 32],
+    starts: &'a [u8; MOST_BLOCKS],
+    sizes: &'a [u8; MOST_BLOCKS],
+    shares: &'a [bool; MOST_BLOCKS],
     count: usize,
     k: u32,
     s: u32,
-) -> [bool; 32]
+) -> [bool; MOST_BLOCKS]
     requires { ⌜ count ≤ 32 ⌝ }
-    ensures { λ r. ⌜ Filled false 32 (fills (held (marksOf (now (starts .entry)) (now (sizes .entry)) (now (shares .entry)) [] count)) k s) count r ⌝ }
+    ensures { λ r. ⌜ Filled false 32 (fills (storedOf (marksOf (now (starts .entry)) (now (sizes .entry))
+        (now (shares .entry)) [] count)) k s) count r ⌝ }
 {
-    let mut marks = [false; 32];
+    let mut marks = [false; MOST_BLOCKS];
     let mut i: usize = 0;
     while i < count {
         marks[i] = write_overlap::fills(starts[i], sizes[i], shares[i], k, s);

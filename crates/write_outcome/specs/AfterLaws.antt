@@ -12,6 +12,7 @@ use lib.ListN.{length, getD, length-drop}
 use lib.Seq.{getD-drop}
 use lib.Dec.{eqb}
 use borrow.Author.Tests.{eqb-true, eq-eqb}
+use Rattle.processor_list.specs.Processors.{ProcessorList}
 use Rattle.laws.specs.Bools.{no-true}
 use Rattle.laws.specs.Below.{all-true}
 use Rattle.laws.specs.Same.{Same}
@@ -20,7 +21,8 @@ use Rattle.update_verdict.specs.Verdict.{verdict}
 use Rattle.update_sharing.specs.Shares.{Shares}
 use Rattle.update_sharing.specs.SharingLocal.{Alike, shares-move, shares-turn}
 use Rattle.update_verdict.specs.declared.Verdict.the-variants.{Good}
-use Rattle.store_blocks.specs.Blocks.{isFF, filled, fromBlock, blockCount, filled-local}
+use Rattle.store_blocks.specs.Blocks.{isFF, filled, fromBlock, blockCount}
+use Rattle.store_blocks.specs.FilledLaws.{filled-local}
 use Rattle.store_directory.specs.Scan.{single, slotAt, sizeAt, first, storeOk}
 use Rattle.store_directory.specs.Valid.{Owned, Layout, Valid}
 use Rattle.store_directory.specs.SlotLaws.{filled-unused, single-is, unused-filled}
@@ -52,13 +54,13 @@ module _ (old : List ℕ) (start : ℕ) (e : ℕ → Bool) where
   unfolding after
   start-after = rw (eq-eqb start start refl) (or-true (kept old e start))
 
-module _ (old signatures platforms cand : List ℕ) (t d n k start : ℕ) (e : ℕ → Bool)
-    (valid : Valid old (blockCount old) (first old)) (good : verdict cand ≡ Good t d n k) (legal : Legal old signatures platforms cand t start e) where
+module _ (old : List ℕ) (list : ProcessorList) (cand : List ℕ) (t d n k start : ℕ) (e : ℕ → Bool)
+    (valid : Valid old (blockCount old) (first old)) (good : verdict cand ≡ Good t d n k) (legal : Legal old list cand t start e) where
   abbrev new : List ℕ
   new = outcomeBytes old t cand start e
 
   long : length new ≡ blockCount old * 2048
-  long = new-long old signatures platforms cand t start e valid legal
+  long = new-long old list cand t start e valid legal
 
   ends : (start + blocksOf t) * 2048 ≤ length old
   ends = omega (arith, valid .long, legal .ends)
@@ -69,15 +71,15 @@ module _ (old signatures platforms cand : List ℕ) (t d n k start : ℕ) (e : �
   -- an update that stays
   stays : (b j : ℕ) → b < blockCount old → kept old e b ≡ true → slotAt old b ≡ Update j → (slotAt new b ≡ Update j) × Same (fromBlock old b) (fromBlock new b) (j * 2048)
   stays b j l h s = (
-    kept-slot old signatures platforms cand t start e valid legal b h l j s,
-    kept-same old signatures platforms cand t start e valid legal b h l j s,
+    kept-slot old list cand t start e valid legal b h l j s,
+    kept-same old list cand t start e valid legal b h l j s,
   )
 
   stays-covers : (b : ℕ) → b < blockCount old → kept old e b ≡ true → Alike (fromBlock old b) (fromBlock new b)
-  stays-covers b l h = kept-covers old signatures platforms cand t start e valid legal b h l
+  stays-covers b l h = kept-covers old list cand t start e valid legal b h l
 
   stays-size : (b : ℕ) → b < blockCount old → kept old e b ≡ true → sizeAt new b ≡ sizeAt old b
-  stays-size b l h = kept-size old signatures platforms cand t start e valid legal b h l
+  stays-size b l h = kept-size old list cand t start e valid legal b h l
 
   -- a block outside the run that belongs to no update afterwards
   same-block : (c : ℕ) → c < blockCount old → inRun start (blocksOf t) c ≡ false → emptiedAt old e c ≡ false → Same (fromBlock old c) (fromBlock new c) 2048
@@ -108,8 +110,8 @@ module _ (old signatures platforms cand : List ℕ) (t d n k start : ℕ) (e : �
     where
       go : (kept old e b ≡ true) ⊎ (b ≡ start) → (kept old e c ≡ true) ⊎ (c ≡ start) → b + sizeAt new b ≤ c
       go (inl x) (inl y) = rw (stays-size b (omega arith) x) (valid .layout .order b c l q (kept-parts old e b x .0) (kept-parts old e c y .0))
-      go (inl x) (inr y) = rw (stays-size b (omega arith) x) (rw y (kept-before old signatures platforms cand t start e valid legal b x (good-blocks cand t d n k good) (omega arith)))
-      go (inr x) (inl y) = rw x (rw size (kept-behind old signatures platforms cand t start e valid legal c y q (omega arith)))
+      go (inl x) (inr y) = rw (stays-size b (omega arith) x) (rw y (kept-before old list cand t start e valid legal b x (good-blocks cand t d n k good) (omega arith)))
+      go (inr x) (inl y) = rw x (rw size (kept-behind old list cand t start e valid legal c y q (omega arith)))
       go (inr x) (inr y) = absurd (let v : ⊥ = omega arith in v)
 
   new-full : (c : ℕ) → c < blockCount old → (single (slotAt new c) ≡ true) ⊎ ((b : ℕ) × Owned new (after old start e) b c)
@@ -128,7 +130,7 @@ module _ (old signatures platforms cand : List ℕ) (t d n k start : ℕ) (e : �
 
   new-layout : Layout new (blockCount old) (after old start e)
   new-layout = record {
-    held = λ b l h. ⊎-elim (λ p. let j = kept-update old e b p in (j .0, stays b (j .0) l p (j .1) .0)) (λ p. (blocksOf t, ap (slotAt new) p ∙ cand-slot old cand t d n k start e good ends)) (after-cases old start e b h);
+    stored = λ b l h. ⊎-elim (λ p. let j = kept-update old e b p in (j .0, stays b (j .0) l p (j .1) .0)) (λ p. (blocksOf t, ap (slotAt new) p ∙ cand-slot old cand t d n k start e good ends)) (after-cases old start e b h);
     order = new-order;
     full = new-full;
   }
@@ -169,6 +171,6 @@ module _ (old signatures platforms cand : List ℕ) (t d n k start : ℕ) (e : �
     placed-covers = covers;
   }
 
-pub outcome-after : (old signatures platforms cand : List ℕ) (t d n k start : ℕ) (e : ℕ → Bool) → storeOk old ≡ true → verdict cand ≡ Good t d n k
-    → Legal old signatures platforms cand t start e → After old (outcomeBytes old t cand start e) cand t d n k start e
-outcome-after old signatures platforms cand t d n k start e ok good legal = legal-after old signatures platforms cand t d n k start e (store-valid old ok) good legal
+pub outcome-after : (old : List ℕ) (list : ProcessorList) (cand : List ℕ) (t d n k start : ℕ) (e : ℕ → Bool) → storeOk old ≡ true → verdict cand ≡ Good t d n k
+    → Legal old list cand t start e → After old (outcomeBytes old t cand start e) cand t d n k start e
+outcome-after old list cand t d n k start e ok good legal = legal-after old list cand t d n k start e (store-valid old ok) good legal

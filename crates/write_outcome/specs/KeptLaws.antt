@@ -16,6 +16,7 @@ use native.Mathlib.Omega.{arith}
 use lib.ListN.{length, length-drop}
 use lib.Seq.{getD-drop}
 use borrow.Author.Tests.{not-true}
+use Rattle.processor_list.specs.Processors.{ProcessorList}
 use Rattle.laws.specs.Bools.{and-parts, no-true}
 use Rattle.laws.specs.Orders.{le-or-lt}
 use Rattle.laws.specs.Same.{Same}
@@ -45,8 +46,8 @@ module _ (old : List ℕ) (e : ℕ → Bool) (b : ℕ) where
   pub kept-update : kept old e b ≡ true → (k : ℕ) × (slotAt old b ≡ Update k)
   kept-update h = first-parts old b (kept-parts h .0) .1
 
-module _ (old signatures platforms cand : List ℕ) (t start : ℕ) (e : ℕ → Bool)
-    (valid : Valid old (blockCount old) (first old)) (legal : Legal old signatures platforms cand t start e) where
+module _ (old : List ℕ) (list : ProcessorList) (cand : List ℕ) (t start : ℕ) (e : ℕ → Bool)
+    (valid : Valid old (blockCount old) (first old)) (legal : Legal old list cand t start e) where
   abbrev new : List ℕ
   new = outcomeBytes old t cand start e
 

@@ -15,16 +15,16 @@ use Rattle.store_directory.specs.Scan.{first}
 use Rattle.store_directory.specs.Kind.{kindAt}
 use Rattle.store_directory.specs.Valid.{Owned}
 use Rattle.store_directory.specs.declared.kind.Kind.the-variants.{Unused}
-use Rattle.processor_list.specs.Processors.{Keeps}
+use Rattle.processor_list.specs.Processors.{ProcessorList, Needed}
 
 -- old is the store before the call, and cand the candidate, of t bytes
-pub record Legal (old signatures platforms cand : List ℕ) (t start : ℕ) (e : ℕ → Bool) : Type 0 where
+pub record Legal (old : List ℕ) (list : ProcessorList) (cand : List ℕ) (t start : ℕ) (e : ℕ → Bool) : Type 0 where
   -- its run, ceiling(T / 2,048) consecutive blocks from the start, lies below N
   pub ends : start + blocksOf t ≤ blockCount old
   -- each block of the run was unused or belongs to an update it empties
   pub free : (c : ℕ) → start ≤ c → c < start + blocksOf t → (kindAt old c ≡ Unused) ⊎ ((b : ℕ) × (e b ≡ true) × Owned old (first old) b c)
   -- it empties no update that covers a listed processor the candidate doesn't cover
-  pub spares : (b : ℕ) → b < blockCount old → first old b ≡ true → Keeps signatures platforms cand (fromBlock old b) → e b ≡ true → ⊥
+  pub spares : (b : ℕ) → b < blockCount old → first old b ≡ true → Needed list cand (fromBlock old b) → e b ≡ true → ⊥
   -- it empties every update that covers a processor the candidate covers, listed or not
   pub frees : (b : ℕ) → b < blockCount old → first old b ≡ true → Shares (fromBlock old b) cand → e b ≡ true
 

@@ -6,6 +6,9 @@ ghost use Rattle.update_sizes.specs.Sizes.{blocksOf};
 ghost use Rattle.write_outcome.specs.OutcomeBytes.{outcomeBytes};
 ghost use Rattle.write_outcome.specs.Cleared.{cleared};
 ghost use Rattle.write_outcome.specs.EmptiedEntries.{marked, Entries, emptyIf};
+use store_blocks::MOST_BLOCKS;
+use update_sizes::BLOCK;
+use update_sizes::BLOCK_ROUNDING;
 
 // The update of `size` blocks from `start` on is emptied, if it is marked.
 fn empty_if(gone: bool, store: &mut [u8], start: u8, size: u8)
@@ -13,16 +16,16 @@ fn empty_if(gone: bool, store: &mut [u8], start: u8, size: u8)
     ensures { λ _. ⌜ now (store .exit) ≡ emptyIf gone (now (store .entry)) start size ⌝ }
 {
     if gone {
-        bytes_copy::fill(store, start as usize * 2048, size as usize * 2048);
+        bytes_copy::fill(store, start as usize * BLOCK, size as usize * BLOCK);
     }
 }
 
 // The marked ones of the first `count` entries are emptied.
 fn empty_marked<'a>(
     store: &mut [u8],
-    starts: &'a [u8; 32],
-    sizes: &'a [u8; 32],
-    gone: [bool; 32],
+    starts: &'a [u8; MOST_BLOCKS],
+    sizes: &'a [u8; MOST_BLOCKS],
+    gone: [bool; MOST_BLOCKS],
     count: usize,
 )
     requires { ⌜ Entries (now store) (now starts) (now sizes) count ⌝ }
@@ -39,9 +42,9 @@ fn empty_marked<'a>(
 // behind them to the end of its last block.
 pub fn write_bytes<'a>(
     store: &mut [u8],
-    starts: &'a [u8; 32],
-    sizes: &'a [u8; 32],
-    gone: [bool; 32],
+    starts: &'a [u8; MOST_BLOCKS],
+    sizes: &'a [u8; MOST_BLOCKS],
+    gone: [bool; MOST_BLOCKS],
     count: usize,
     start: u32,
     candidate: &[u8],
@@ -50,10 +53,11 @@ pub fn write_bytes<'a>(
     requires { ⌜ Entries (now store) (now starts) (now sizes) count ⌝ }
     requires { ⌜ (t ≤ length (now candidate)) × (t ≤ 32768) ⌝ }
     requires { ⌜ (start + blocksOf t) * 2048 ≤ length (now store) ⌝ }
-    ensures { λ _. ⌜ now (store .exit) ≡ outcomeBytes (now (store .entry)) t (now (candidate .entry)) start (marked (now (starts .entry)) gone count) ⌝ }
+    ensures { λ _. ⌜ now (store .exit) ≡ outcomeBytes (now (store .entry)) t (now (candidate .entry)) start (marked
+        (now (starts .entry)) gone count) ⌝ }
 {
     empty_marked(store, starts, sizes, gone, count);
-    let at = start as usize * 2048;
+    let at = start as usize * BLOCK;
     bytes_copy::put(store, at, candidate, t);
-    bytes_copy::fill(store, at + t, (t + 2047) / 2048 * 2048 - t);
+    bytes_copy::fill(store, at + t, (t + BLOCK_ROUNDING) / BLOCK * BLOCK - t);
 }

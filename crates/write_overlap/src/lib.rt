@@ -1,8 +1,8 @@
 // One stored update against a run of blocks. `k` is the number of blocks that the candidate takes, `s` a start block. The update has `size`
-// blocks from `start` on; `shares` says that it covers a processor that the candidate covers, `keeps` that it covers a listed one that the
+// blocks from `start` on; `shares` says that it covers a processor that the candidate covers, `needed` that it covers a listed one that the
 // candidate doesn't.
 ghost use mathlib.Core.Path.{_≡_};
-ghost use Rattle.write_overlap.specs.Overlap.{touches, goes, bars, loses, within, fills};
+ghost use Rattle.write_overlap.specs.Overlap.{touches, isEmptied, rulesOut, loses, within, fills};
 
 // Does the run of `k` blocks from `s` touch the update of `size` blocks from `start`?
 fn touches(start: u8, size: u8, k: u32, s: u32) -> bool
@@ -16,8 +16,8 @@ fn touches(start: u8, size: u8, k: u32, s: u32) -> bool
 }
 
 // Is the update emptied if the candidate goes to `s`?
-fn goes(start: u8, size: u8, shares: bool, k: u32, s: u32) -> bool
-    ensures { λ r. ⌜ r ≡ goes start size shares k s ⌝ }
+fn is_emptied(start: u8, size: u8, shares: bool, k: u32, s: u32) -> bool
+    ensures { λ r. ⌜ r ≡ isEmptied start size shares k s ⌝ }
 {
     if shares {
         true
@@ -27,11 +27,11 @@ fn goes(start: u8, size: u8, shares: bool, k: u32, s: u32) -> bool
 }
 
 // Would the update be emptied, and must it not be?
-pub fn bars(start: u8, size: u8, shares: bool, keeps: bool, k: u32, s: u32) -> bool
-    ensures { λ r. ⌜ r ≡ bars start size shares keeps k s ⌝ }
+pub fn rules_out(start: u8, size: u8, shares: bool, needed: bool, k: u32, s: u32) -> bool
+    ensures { λ r. ⌜ r ≡ rulesOut start size shares needed k s ⌝ }
 {
-    if keeps {
-        goes(start, size, shares, k, s)
+    if needed {
+        is_emptied(start, size, shares, k, s)
     } else {
         false
     }
@@ -66,6 +66,6 @@ pub fn fills(start: u8, size: u8, shares: bool, k: u32, s: u32) -> bool
     if within(start, size, k, s) {
         false
     } else {
-        goes(start, size, shares, k, s)
+        is_emptied(start, size, shares, k, s)
     }
 }

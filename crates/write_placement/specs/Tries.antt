@@ -14,9 +14,9 @@ use Rattle.laws.specs.Orders.{le-or-lt}
 use Rattle.laws.specs.Least.{better}
 use Rattle.write_placement.specs.declared.Choice.{Choice}
 use Rattle.write_placement.specs.declared.Choice.the-variants.{At, Nowhere}
-use Rattle.write_marks.specs.Held.{Held}
-use Rattle.write_marks.specs.Against.{loses, barred, lost}
-use Rattle.write_marks.specs.StoredMarks.{held, marksOf}
+use Rattle.write_marks.specs.StoredUpdates.{StoredUpdates}
+use Rattle.write_marks.specs.Against.{loses, ruledOut, lost}
+use Rattle.write_marks.specs.StoredMarks.{storedOf, marksOf}
 use Rattle.write_marks.specs.Capped.{capped, capped-less, capped-more, lost-same}
 use Rattle.write_placement.specs.Choices.{choiceOf, pickOf, choice-pick}
 
@@ -25,11 +25,11 @@ limitOf Nowhere = 33
 limitOf (At s c) = c
 
 -- the choice so far against one more start
-abbrev pub turn : Held → ℕ → ℕ → Choice → Choice
-turn h k s sofar = choiceOf (cond (barred h k s) (pickOf sofar) (better (pickOf sofar) s (lost h k s)))
+abbrev pub turn : StoredUpdates → ℕ → ℕ → Choice → Choice
+turn h k s sofar = choiceOf (cond (ruledOut h k s) (pickOf sofar) (better (pickOf sofar) s (lost h k s)))
 
 -- l is the limit, c how many are lost, up to it, b whether some update rules the start out
-module _ (h : Held) (k s : ℕ) (sofar : Choice) (l c : ℕ) (e : l ≡ limitOf sofar) (f : c ≡ capped l (lost h k s)) where
+module _ (h : StoredUpdates) (k s : ℕ) (sofar : Choice) (l c : ℕ) (e : l ≡ limitOf sofar) (f : c ≡ capped l (lost h k s)) where
   less-is : c < l → c ≡ lost h k s
   less-is x =
       ⊎-elim (λ (y : l ≤ lost h k s). let z = capped-more l (lost h k s) y in absurd (omega arith))
@@ -50,22 +50,22 @@ module _ (h : Held) (k s : ℕ) (sofar : Choice) (l c : ℕ) (e : l ≡ limitOf 
       (le-or-lt l (lost h k s))
 
 -- of the lent arrays
-module _ (starts sizes : List ℕ) (shares keeps : List Bool) (count k s : ℕ) (sofar : Choice) (l c : ℕ) (e : l ≡ limitOf sofar)
-    (f : c ≡ capped l (lost (held (marksOf starts sizes shares [] count)) k s)) where
-  abbrev h : Held
-  h = held (marksOf starts sizes shares keeps count)
+module _ (starts sizes : List ℕ) (shares needed : List Bool) (count k s : ℕ) (sofar : Choice) (l c : ℕ) (e : l ≡ limitOf sofar)
+    (f : c ≡ capped l (lost (storedOf (marksOf starts sizes shares [] count)) k s)) where
+  abbrev h : StoredUpdates
+  h = storedOf (marksOf starts sizes shares needed count)
 
   right : c ≡ capped l (lost h k s)
-  right = f ∙ ap (capped l) (lost-same starts sizes shares keeps count k s)
+  right = f ∙ ap (capped l) (lost-same starts sizes shares needed count k s)
 
-  pub try-barred : (b : Bool) → b ≡ barred h k s → b ≡ true → sofar ≡ turn h k s sofar
-  try-barred b g t = rw (← g, t) (choice-pick sofar)
+  pub try-ruled-out : (b : Bool) → b ≡ ruledOut h k s → b ≡ true → sofar ≡ turn h k s sofar
+  try-ruled-out b g t = rw (← g, t) (choice-pick sofar)
 
-  pub try-taken : (b : Bool) → b ≡ barred h k s → b ≡ false → c < l → At s c ≡ turn h k s sofar
+  pub try-taken : (b : Bool) → b ≡ ruledOut h k s → b ≡ false → c < l → At s c ≡ turn h k s sofar
   try-taken b g t x = rw (← g, t) (taken h k s sofar l c e right sofar e x)
 
   pub try-dear : l ≤ c → count ≤ 32 → sofar ≡ turn h k s sofar
-  unfolding held
-  try-dear x few = stays h k s sofar l c e right sofar e x few (barred h k s)
+  unfolding storedOf
+  try-dear x few = stays h k s sofar l c e right sofar e x few (ruledOut h k s)
 
-pub ruleset trying = (try-barred, try-taken, try-dear)
+pub ruleset trying = (try-ruled-out, try-taken, try-dear)

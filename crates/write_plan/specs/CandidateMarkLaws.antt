@@ -1,14 +1,14 @@
 -- The marks as the code keeps them, and how they stand for those of the definitions.
---   Shared, Marks             arrays of marks beside the directory's entries are right
---   shares-is, keeps-is       a turn of the loop that marks; marks-made: its end
+--   shares-is, needed-is       a turn of the loop that marks; marks-made: its end
 --   outdates-yes, outdating   the test of one update; the scan for one that isn't older, as `search` takes it
---   held-same                 right marks agree with the definitions' table
+--   stored-same                 right marks agree with the definitions' table
 use Prim.Native.Nat.{ℕ, _+_, _<_, _≤_}
 use mathlib.Core.Path.{_≡_, sym, _∙_}
 use mathlib.Core.Bool.{Bool, true, false, _&&_}
 use mathlib.Core.List.{List}
 use lib.ListN.{length, getD}
 use lib.Dec.{leb}
+use Rattle.processor_list.specs.Processors.{ProcessorList}
 use Rattle.laws.specs.Below.{anyBelow, any-none, any-more, any-stop}
 use Rattle.laws.specs.Loops.{scan-done}
 use Rattle.laws.specs.Arrays.{Filled, filled-all}
@@ -18,21 +18,11 @@ use Rattle.store_blocks.specs.Blocks.{fromBlock}
 use Rattle.store_directory.specs.Scan.{directory}
 use Rattle.store_directory.specs.declared.Directory.{Directory}
 use Rattle.write_placement.specs.Agree.{Agree}
-use Rattle.write_marks.specs.StoredMarks.{held}
+use Rattle.write_marks.specs.StoredMarks.{storedOf}
 use Rattle.write_marks.specs.declared.Marked.{Marked}
-use Rattle.processor_list.specs.Covered.{Covered, keepsBy, keeping-is}
-use Rattle.write_plan.specs.CandidateMarks.{sharesEntry, keepsEntry, heldIn, outdates, outdated}
-
-pub record Shared (old cand starts : List ℕ) (shares : List Bool) (count : ℕ) : Type 0 where
-  pub starts-are : starts ≡ directory old .starts
-  pub count-is : count ≡ directory old .count
-  pub few : count ≤ 32
-  pub marks : Filled false 32 (sharesEntry old cand) count shares
-
-pub record Marks (old signatures platforms cand : List ℕ) (m : Marked) : Type 0 where
-  pub shared : Shared old cand (m .starts) (m .shares) (m .count)
-  pub sizes : m .sizes ≡ directory old .sizes
-  pub keeps : Filled false 32 (keepsEntry old signatures platforms cand) (m .count) (m .keeps)
+use Rattle.processor_list.specs.Covered.{Covered, neededByMarks, needed-by-is}
+use Rattle.write_plan.specs.RightMarks.{Shared, Marks}
+use Rattle.write_plan.specs.CandidateMarks.{sharesEntry, neededEntry, storedUpdates, outdates, outdated}
 
 -- a turn: d is the directory, u the part at the start of entry i
 module _ (old u cand : List ℕ) (d : Directory) (i : ℕ) (r : Bool) (e : d ≡ directory old) (part : u ≡ fromBlock old (getD (d .starts) i 0)) where
@@ -40,19 +30,19 @@ module _ (old u cand : List ℕ) (d : Directory) (i : ℕ) (r : Bool) (e : d ≡
   unfolding sharesEntry
   shares-is h = h ∙ rw (part, e)
 
-  pub keeps-is : (signatures platforms : List ℕ) (marks : List Bool) → Covered signatures platforms cand marks → r ≡ anyBelow (length signatures) (keepsBy signatures platforms marks u) → r ≡ keepsEntry old signatures platforms cand i
-  unfolding keepsEntry
-  keeps-is signatures platforms marks right h = keeping-is signatures platforms cand marks right u r h ∙ rw (part, e)
+  pub needed-is : (list : ProcessorList) (marks : List Bool) → Covered list cand marks → r ≡ anyBelow (length (list .signatures)) (neededByMarks list marks u) → r ≡ neededEntry old list cand i
+  unfolding neededEntry
+  needed-is list marks right h = needed-by-is list cand marks right u r h ∙ rw (part, e)
 
 -- the loop's end
-pub marks-made : (old signatures platforms cand : List ℕ) (d : Directory) (i : ℕ) (xs ys : List Bool) → d ≡ directory old → d .count ≤ 32
-    → Filled false 32 (sharesEntry old cand) i xs → Filled false 32 (keepsEntry old signatures platforms cand) i ys → i ≤ d .count → d .count ≤ i
-    → Marks old signatures platforms cand (record { starts = d .starts; sizes = d .sizes; shares = xs; keeps = ys; count = d .count })
-marks-made old signatures platforms cand d i xs ys e few a b l m =
+pub marks-made : (old : List ℕ) (list : ProcessorList) (cand : List ℕ) (d : Directory) (i : ℕ) (xs ys : List Bool) → d ≡ directory old → d .count ≤ 32
+    → Filled false 32 (sharesEntry old cand) i xs → Filled false 32 (neededEntry old list cand) i ys → i ≤ d .count → d .count ≤ i
+    → Marks old list cand (record { starts = d .starts; sizes = d .sizes; shares = xs; needed = ys; count = d .count })
+marks-made old list cand d i xs ys e few a b l m =
     record {
       sizes = rw e;
       shared = record { starts-are = rw e; count-is = rw e; few = few; marks = filled-all false 32 (sharesEntry old cand) xs i (d .count) a l m };
-      keeps = filled-all false 32 (keepsEntry old signatures platforms cand) ys i (d .count) b l m;
+      needed = filled-all false 32 (neededEntry old list cand) ys i (d .count) b l m;
     }
 
 -- one update: v is the revision that a call read from the part u
@@ -79,14 +69,14 @@ outdate-done old cand starts shares count i right h p q = scan-done (outdates ol
 
 pub ruleset outdating = (any-none, outdate-more, outdate-stop, outdate-done)
 
-pub held-same : (old signatures platforms cand : List ℕ) (m : Marked) → Marks old signatures platforms cand m → Agree (held m) (heldIn old signatures platforms cand)
-unfolding held heldIn
-held-same old signatures platforms cand m right =
+pub stored-same : (old : List ℕ) (list : ProcessorList) (cand : List ℕ) (m : Marked) → Marks old list cand m → Agree (storedOf m) (storedUpdates old list cand)
+unfolding storedOf storedUpdates
+stored-same old list cand m right =
     let s = right .shared in
     record {
       count = s .count-is;
       start = λ i l. rw (s .starts-are);
       size = λ i l. rw (right .sizes);
       shares = λ i l. s .marks .each i l;
-      keeps = λ i l. right .keeps .each i l;
+      needed = λ i l. right .needed .each i l;
     }

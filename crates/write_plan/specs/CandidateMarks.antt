@@ -1,8 +1,8 @@
 -- The stored updates with their two marks against a candidate (document 01, checks 6 to 8).
 --   updateAt        the store from the first block of update number i on
 --   sharesEntry     update number i shares a processor with the candidate, listed or not
---   keepsEntry      it covers a listed processor that the candidate doesn't
---   heldIn          the stored updates, by number, as the choice of a run sees them
+--   neededEntry      it covers a listed processor that the candidate doesn't
+--   storedUpdates          the stored updates, by number, as the choice of a run sees them
 --   outdates        it shares, and its revision is equal or greater
 --   outdated        some stored update does
 use Prim.Native.Nat.{ℕ}
@@ -14,9 +14,9 @@ use Rattle.update_header.specs.Fields.{revision}
 use Rattle.update_sharing.specs.Shares.{shares}
 use Rattle.store_blocks.specs.Blocks.{fromBlock}
 use Rattle.store_directory.specs.Scan.{directory}
-use Rattle.store_directory.specs.DirectoryLaws.{startOf, sizeOf}
-use Rattle.processor_list.specs.Processors.{keeping}
-use Rattle.write_marks.specs.Held.{Held}
+use Rattle.store_directory.specs.DirectoryEntries.{startOf, sizeOf}
+use Rattle.processor_list.specs.Processors.{ProcessorList, isNeeded}
+use Rattle.write_marks.specs.StoredUpdates.{StoredUpdates}
 
 -- the bytes from the first block of update number i on
 abbrev pub updateAt : List ℕ → ℕ → List ℕ
@@ -25,17 +25,17 @@ updateAt old i = fromBlock old (startOf (directory old) i)
 unfoldable pub sharesEntry : List ℕ → List ℕ → ℕ → Bool
 sharesEntry old cand i = shares (updateAt old i) cand
 
-unfoldable pub keepsEntry : List ℕ → List ℕ → List ℕ → List ℕ → ℕ → Bool
-keepsEntry old signatures platforms cand i = keeping signatures platforms cand (updateAt old i)
+unfoldable pub neededEntry : List ℕ → ProcessorList → List ℕ → ℕ → Bool
+neededEntry old list cand i = isNeeded list cand (updateAt old i)
 
-unfoldable pub heldIn : List ℕ → List ℕ → List ℕ → List ℕ → Held
-heldIn old signatures platforms cand =
+unfoldable pub storedUpdates : List ℕ → ProcessorList → List ℕ → StoredUpdates
+storedUpdates old list cand =
     record {
       count = directory old .count;
       start = startOf (directory old);
       size = sizeOf (directory old);
       shares = sharesEntry old cand;
-      keeps = keepsEntry old signatures platforms cand;
+      needed = neededEntry old list cand;
     }
 
 unfoldable pub outdates : List ℕ → List ℕ → ℕ → Bool

@@ -1,5 +1,6 @@
 // The marks of the stored updates against a candidate, and whether one of them is as new.
 ghost use mathlib.Core.Path.{_≡_};
+ghost use Rattle.processor_list.specs.Processors.{listOf};
 ghost use mathlib.Core.Bool.{false, _&&_};
 ghost use Prim.Native.Nat.{_≤_};
 ghost use lib.ListN.{length};
@@ -9,7 +10,8 @@ ghost use Rattle.store_blocks.specs.Blocks.{fromBlock};
 ghost use Rattle.store_directory.specs.Scan.{directory};
 ghost use Rattle.processor_list.specs.Covered.{Covered};
 ghost use Rattle.write_plan.specs.CandidateMarks.{outdated};
-ghost use Rattle.write_plan.specs.CandidateMarkLaws.{Shared, Marks};
+ghost use Rattle.write_plan.specs.RightMarks.{Shared, Marks};
+use store_blocks::MOST_BLOCKS;
 use store_directory::Directory;
 use update_header::fields;
 use write_marks::Marked;
@@ -26,20 +28,20 @@ pub fn mark(
 ) -> Marked
     requires { ⌜ d ≡ directory (now store) ⌝ }
     requires { ⌜ (length (now signatures) ≤ 8) × (length (now signatures) ≡ length (now platforms)) ⌝ }
-    requires { ⌜ Covered (now signatures) (now platforms) (now candidate) marks ⌝ }
-    ensures { λ r. ⌜ Marks (now (store .entry)) (now (signatures .entry)) (now (platforms .entry)) (now (candidate .entry)) r ⌝ }
+    requires { ⌜ Covered (listOf (now signatures) (now platforms)) (now candidate) marks ⌝ }
+    ensures { λ r. ⌜ Marks (now (store .entry)) (listOf (now (signatures .entry)) (now (platforms .entry))) (now (candidate .entry)) r ⌝ }
 {
     let data = fields::data_size(candidate);
     let pairs = update_coverage::pair_count(candidate);
-    let mut shared = [false; 32];
-    let mut keeps = [false; 32];
+    let mut shared = [false; MOST_BLOCKS];
+    let mut needed = [false; MOST_BLOCKS];
     let mut i: usize = 0;
     while i < d.count {
         let u = store_blocks::from_start(store, d.starts[i]);
         let m = fields::data_size(u);
         let n = update_coverage::pair_count(u);
         shared[i] = update_sharing::shares_with(u, m, n, candidate, data, pairs);
-        keeps[i] = processor_list::keeping(signatures, platforms, marks, u, m, n);
+        needed[i] = processor_list::is_needed(signatures, platforms, marks, u, m, n);
         i += 1;
     }
     let starts = d.starts;
@@ -48,7 +50,7 @@ pub fn mark(
         starts,
         sizes,
         shares: shared,
-        keeps,
+        needed,
         count: d.count,
     }
 }
@@ -67,8 +69,8 @@ fn outdates(store: &[u8], shares: bool, start: u8, new: u32) -> bool
 // Does some stored update share, with a revision that is equal or greater?
 pub fn outdated<'a>(
     store: &[u8],
-    starts: &'a [u8; 32],
-    shares: &'a [bool; 32],
+    starts: &'a [u8; MOST_BLOCKS],
+    shares: &'a [bool; MOST_BLOCKS],
     count: usize,
     candidate: &[u8],
 ) -> bool

@@ -2,7 +2,7 @@
 use mathlib.Core.Path.{ap, _∙_}
 use borrow.Author.Needs.{needs}
 use Rattle.board_load_words.specs.LoadWords.{loadAx, loadWords}
-use Rattle.board.specs.LoadPart.{load-inside}
+use Rattle.load_choice.specs.LoadBoundLaws.{load-inside}
 use Rattle.board.proofs.update_store_load.Statement.{statement}
 use Rattle.board.proofs.update_store_load.Tie as tie
 

@@ -5,7 +5,7 @@ use Rattle.board_call_words.proofs.unknown_words.Statement.{statement}
 use Rattle.board_call_words.proofs.unknown_words.Tie as tie
 
 returns : tie.Need-returns
-returns c = unknown-words _ _ (c .before .flag-word .ensures) _ (c .put .ensures)
+returns c = unknown-words _ _ (c .before .before .flag-word .ensures) _ (c .put .ensures)
 
 pub unknown-words-spec : {M : Type 1} → statement M
 unknown-words-spec = tie.close (tie.spec (search needs) (search needs) returns)

@@ -1,7 +1,8 @@
 -- `board_load_words::load_words` meets its contract: a case each.
 use Prim.Native.Nat.{_<_}
 use native.Mathlib.Omega.{arith}
-use Rattle.board_load_words.specs.LoadWordLaws.{load-wording, load-small}
+use Rattle.load_choice.specs.LoadBoundLaws.{load-small}
+use Rattle.board_load_words.specs.LoadWordLaws.{load-wording}
 use Rattle.board_load_words.proofs.load_words.Statement.{statement}
 use Rattle.board_load_words.proofs.load_words.Tie as tie
 

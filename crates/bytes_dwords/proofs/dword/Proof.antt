@@ -1,6 +1,6 @@
 -- `bytes_dwords::dword` meets its contract, by its two readers and, behind the end, by `dword-behind`.
 use native.Mathlib.Omega.{arith}
-use Rattle.bytes_dwords.specs.Dword.{dword-behind}
+use Rattle.bytes_dwords.specs.DwordLaws.{dword-behind}
 use Rattle.bytes_dwords.proofs.dword.Statement.{statement}
 use Rattle.bytes_dwords.proofs.dword.Tie as tie
 

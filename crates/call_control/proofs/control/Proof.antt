@@ -1,7 +1,8 @@
 -- `call_control::control` meets its contract: the task decides.
 use borrow.Author.Needs.{needs}
 use Rattle.laws.specs.Tests.{cases}
-use Rattle.call_control.specs.Control.{controlReply, controlling}
+use Rattle.call_control.specs.Control.{controlReply}
+use Rattle.call_control.specs.ControlLaws.{controlling}
 use Rattle.call_control.proofs.control.Statement.{statement}
 use Rattle.call_control.proofs.control.Tie as tie
 

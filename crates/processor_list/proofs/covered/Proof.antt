@@ -5,12 +5,12 @@ use native.Mathlib.Omega.{arith}
 use lib.ListN.{length}
 use borrow.Author.Needs.{needs}
 use Rattle.laws.specs.Arrays.{Filled, filling, filled-more, filled-all}
-use Rattle.processor_list.specs.Processors.{coversListed}
+use Rattle.processor_list.specs.Processors.{listOf, coversListed}
 use Rattle.processor_list.proofs.covered.Statement.{statement}
 use Rattle.processor_list.proofs.covered.Tie as tie
 
 abbrev Inv-loop : tie.InvT-loop
-Inv-loop signatures platforms candidate d n marks₀ i₀ marks i = (i ≤ length signatures) × Filled false 8 (coversListed signatures platforms candidate) i marks
+Inv-loop signatures platforms candidate d n marks₀ i₀ marks i = (i ≤ length signatures) × Filled false 8 (coversListed (listOf signatures platforms) candidate) i marks
 
 abbrev μ-loop : tie.MeasureT-loop
 μ-loop signatures platforms candidate d n marks₀ i₀ marks i = length signatures - i

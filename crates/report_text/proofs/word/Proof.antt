@@ -5,7 +5,7 @@ use lib.ListN.{length, take}
 use lib.Seq.{take-all}
 use native.Mathlib.Omega.{arith}
 use Rattle.report_text.specs.Texts.{added}
-use Rattle.report_text.specs.ListLaws.{take-more}
+use Rattle.report_text.specs.TextListLaws.{take-more}
 use Rattle.report_text.specs.TextLaws.{added-none, added-more, added-long}
 use Rattle.report_text.proofs.word.Statement.{statement}
 use Rattle.report_text.proofs.word.Tie as tie

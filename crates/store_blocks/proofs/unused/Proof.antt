@@ -1,7 +1,8 @@
 -- `store_blocks::unused` meets its contract: the first byte, then the block.
 use borrow.Author.Needs.{needs}
 use Rattle.laws.specs.Tests.{cases}
-use Rattle.store_blocks.specs.Blocks.{unused, unused-no}
+use Rattle.store_blocks.specs.Blocks.{unused}
+use Rattle.store_blocks.specs.FilledLaws.{unused-no}
 use Rattle.store_blocks.proofs.unused.Statement.{statement}
 use Rattle.store_blocks.proofs.unused.Tie as tie
 

@@ -3,7 +3,7 @@ use mathlib.Core.Path.{_∙_, sym, ap}
 use Prim.Native.Nat.{_/_, _≤_}
 use native.Mathlib.Omega.{arith}
 use lib.ListN.{length}
-use Rattle.store_blocks.specs.Blocks.{length-few}
+use Rattle.store_blocks.specs.LengthLaws.{length-few}
 use Rattle.store_directory.specs.StoreLaws.{scanned-few, store-bad, store-clash, store-good, store-length}
 use Rattle.store_directory.specs.declared.Directory.{Directory}
 use borrow.Author.Needs.{needs}

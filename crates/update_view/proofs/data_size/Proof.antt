@@ -3,7 +3,7 @@ use mir.Syntax.{w64}
 use Prim.Native.Nat.{ℕ}
 use mathlib.Core.List.{List}
 use lib.ListN.{length}
-use Rattle.update_view.specs.View.{dataPart}
+use Rattle.update_header.specs.DataPart.{dataPart}
 use Rattle.update_view.proofs.parts.data_size.Symbol as callee
 use Rattle.update_view.proofs.parts.data_size.Met as callee-thm
 use Rattle.update_view.proofs.Apart.{number-spec}

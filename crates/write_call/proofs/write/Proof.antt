@@ -1,8 +1,8 @@
 -- `write_call::write` meets its contract: checks 1 to 4, each with its refusal, then the rest. Demand 3 follows from the two equations.
 use native.Mathlib.Omega.{arith}
 use Rattle.processor_list.specs.ListLaws.{list-right}
-use Rattle.write_call.specs.PlanCases.{plans, good-plan}
-use Rattle.write_call.specs.WriteCases.{meant-refused, meant-good}
+use Rattle.write_call.specs.PlanCases.{plans}
+use Rattle.write_call.specs.WriteCases.{meant, meant-refused}
 use Rattle.write_call.proofs.write.Statement.{statement}
 use Rattle.write_call.proofs.write.Tie as tie
 
@@ -18,16 +18,16 @@ write-spec =
     (λ c. omega arith)
     (λ c κs. tt)
     (λ c. omega arith)
-    (λ c κs. ((c .before .before .before .before .before .before .before .before .read-store .ensures, c .before .before .before .before .before .before .before .if1 .taken, search list-right), search good-plan))
+    (λ c κs. ((c .before .before .before .before .before .before .before .before .read-store .ensures, c .before .before .before .before .before .before .before .if1 .taken, search list-right), search plans))
     (λ c κs. tt)
     (λ c κs. tt)
     (λ c. omega arith)
-    (λ c. meant-refused _ _ _ _ _ _ _ _ (search plans) (c .refuse .ensures))
+    (λ c. meant-refused _ _ _ _ _ _ _ (search plans) (c .refuse .ensures))
     (λ c. omega arith)
-    (λ c. meant-refused _ _ _ _ _ _ _ _ (search plans) (c .refuse2 .ensures))
+    (λ c. meant-refused _ _ _ _ _ _ _ (search plans) (c .refuse2 .ensures))
     (λ c. omega arith)
-    (λ c. let g = c .before .before .write-good .ensures in meant-good _ _ _ _ _ _ _ _ (search good-plan) (g .0) (g .1))
+    (λ c. let g = c .before .before .write-good .ensures in meant _ _ _ _ _ _ _ (search plans) (g .0) (g .1))
     (λ c. omega arith)
-    (λ c. meant-refused _ _ _ _ _ _ _ _ (search plans) (c .refuse3 .ensures))
+    (λ c. meant-refused _ _ _ _ _ _ _ (search plans) (c .refuse3 .ensures))
     (λ c. omega arith)
-    (λ c. meant-refused _ _ _ _ _ _ _ _ (search plans) (c .refuse4 .ensures)))
+    (λ c. meant-refused _ _ _ _ _ _ _ (search plans) (c .refuse4 .ensures)))

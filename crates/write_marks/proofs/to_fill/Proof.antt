@@ -8,13 +8,13 @@ use mir.Facts.{fits-below}
 use borrow.Author.Count.{falls}
 use borrow.Author.Needs.{needs}
 use Rattle.laws.specs.Arrays.{Filled, filled-none, filled-more, filled-all}
-use Rattle.write_marks.specs.Against.{touches, goes, within, fills}
-use Rattle.write_marks.specs.StoredMarks.{held, marksOf}
+use Rattle.write_marks.specs.Against.{touchesByNumber, emptiedByNumber, within, fills}
+use Rattle.write_marks.specs.StoredMarks.{storedOf, marksOf}
 use Rattle.write_marks.proofs.to_fill.Statement.{statement}
 use Rattle.write_marks.proofs.to_fill.Tie as tie
 
 abbrev Inv-loop : tie.InvT-loop
-Inv-loop starts sizes shares count k s marks₀ i₀ marks i = (i ≤ count) × Filled false 32 (fills (held (marksOf starts sizes shares [] count)) k s) i marks
+Inv-loop starts sizes shares count k s marks₀ i₀ marks i = (i ≤ count) × Filled false 32 (fills (storedOf (marksOf starts sizes shares [] count)) k s) i marks
 
 abbrev μ-loop : tie.MeasureT-loop
 μ-loop starts sizes shares count k s marks₀ i₀ marks i = count - i
@@ -24,7 +24,7 @@ below : (c : tie.In-loop Inv-loop μ-loop) → c .before .loop .i < 32
 below c = lt-of-lt-of-le (c .loop-test .taken) (c .before .before .pre)
 
 loop-again : tie.Need-loop-again Inv-loop μ-loop
-unfolding fills within goes touches held
+unfolding fills within emptiedByNumber touchesByNumber storedOf
 loop-again c =
     let l = c .before .before .before .before in
     (add-one-le (l .loop-test .taken), filled-more _ _ _ _ _ _ (l .before .loop .inv .1) (below l) (c .fills .ensures))

@@ -6,19 +6,19 @@ use Prim.Native.Nat.{suc, _≤_, _<_, _-_}
 use native.Mathlib.Numerals.{add-one-le}
 use native.Mathlib.Omega.{arith}
 use Rattle.laws.specs.Least.{least}
-use Rattle.write_marks.specs.Against.{barred, lost}
+use Rattle.write_marks.specs.Against.{ruledOut, lost}
 use Rattle.write_placement.specs.Choose.{choose}
-use Rattle.write_marks.specs.StoredMarks.{held, marksOf}
+use Rattle.write_marks.specs.StoredMarks.{storedOf, marksOf}
 use Rattle.write_placement.specs.Choices.{choiceOf, pick-turn, picking}
 use Rattle.write_placement.proofs.choose_run.Statement.{statement}
 use Rattle.write_placement.proofs.choose_run.Tie as tie
 
 abbrev Inv-loop : tie.InvT-loop
-Inv-loop starts sizes shares keeps count n k sofar₀ s₀ sofar s =
-    (s ≤ suc n - k) × (sofar ≡ choiceOf (least (barred (held (marksOf starts sizes shares keeps count)) k) (lost (held (marksOf starts sizes shares keeps count)) k) s))
+Inv-loop starts sizes shares needed count n k sofar₀ s₀ sofar s =
+    (s ≤ suc n - k) × (sofar ≡ choiceOf (least (ruledOut (storedOf (marksOf starts sizes shares needed count)) k) (lost (storedOf (marksOf starts sizes shares needed count)) k) s))
 
 abbrev μ-loop : tie.MeasureT-loop
-μ-loop starts sizes shares keeps count n k sofar₀ s₀ sofar s = suc n - k - s
+μ-loop starts sizes shares needed count n k sofar₀ s₀ sofar s = suc n - k - s
 
 -- start s is among those to try
 room : (c : tie.In-loop Inv-loop μ-loop) → c .before .loop .s < suc (c .before .before .args .n) - c .before .before .args .k

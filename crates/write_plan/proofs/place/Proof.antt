@@ -12,7 +12,6 @@ place-spec =
     (tie.spec
     (λ c κs. omega arith)
     (λ c. omega arith)
-    (λ c κs. tt)
     (λ c. omega arith)
     (λ c κs. omega arith)
     (λ c. let l : c .shared .result + c .before .before .choice .given .0 .1 .0 ≤ 64 = search (needs, place-few) in omega arith)

@@ -5,7 +5,7 @@ use native.Mathlib.Omega.{arith}
 use lib.ListN.{length}
 use borrow.Author.Needs.{needs}
 use Rattle.store_directory.specs.ValidLaws.{blocks-few}
-use Rattle.call_reads.specs.Presence.{presence-yes, presence-no}
+use Rattle.call_reads.specs.PresenceLaws.{presence-yes, presence-no}
 use Rattle.call_reads.proofs.presence.presence.Statement.{statement}
 use Rattle.call_reads.proofs.presence.presence.Tie as tie
 

@@ -1,8 +1,13 @@
--- `call_reads::read::read` meets its contract: the blocks that the answer says are copied, none on a refusal.
+-- `call_reads::read::read` meets its contract, by cases of the plan.
 use borrow.Author.Needs.{needs}
-use Rattle.call_reads.specs.ReadLaws.{copied}
+use Rattle.call_reads.specs.Read.{answered}
+use Rattle.call_reads.specs.ReadLaws.{copying}
 use Rattle.call_reads.proofs.read.read.Statement.{statement}
 use Rattle.call_reads.proofs.read.read.Tie as tie
+
+returns : tie.Need-returns
+unfolding answered
+returns c = (search copying, search copying)
 
 pub read-spec : {M : Type 1} → statement M
 read-spec =
@@ -13,6 +18,9 @@ read-spec =
     (search needs)
     (search needs)
     (search needs)
-    (λ c κs. search (needs, copied))
+    (λ c κs. search (needs, copying))
     (search needs)
-    (λ c. (search needs, search copied)))
+    (search needs)
+    (search needs)
+    returns
+    (λ c. (search copying, search copying)))

@@ -12,6 +12,5 @@ read-blocks-spec =
     tie.close
     (tie.spec
     (search needs)
-    (search needs)
     (λ c. search cases)
     (λ c. search cases))

@@ -13,7 +13,6 @@ read-kind-spec =
     (search needs)
     (search needs)
     (search needs)
-    (search needs)
     (λ c. search kinds)
     (λ c. search kinds)
     (λ c. search kinds))

@@ -1,7 +1,7 @@
 -- `store_blocks::slot::fits` meets its contract: the length, then the rest of the last block.
 use borrow.Author.Needs.{needs}
 use Rattle.update_sizes.specs.Sizes.{blocksOf}
-use Rattle.store_blocks.specs.Slot.{fitting}
+use Rattle.store_blocks.specs.SlotCases.{fitting}
 use Rattle.store_blocks.proofs.slot.fits.Statement.{statement}
 use Rattle.store_blocks.proofs.slot.fits.Tie as tie
 

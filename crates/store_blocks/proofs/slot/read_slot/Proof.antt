@@ -1,6 +1,7 @@
 -- `store_blocks::slot::read_slot` meets its contract, by cases of the verdict.
 use borrow.Author.Needs.{needs}
-use Rattle.store_blocks.specs.Slot.{slotOf, slotting}
+use Rattle.store_blocks.specs.Slot.{slotOf}
+use Rattle.store_blocks.specs.SlotCases.{slotting, good-dwords}
 use Rattle.update_verdict.specs.VerdictLaws.{verdict-blocks}
 use Rattle.store_blocks.proofs.slot.read_slot.Statement.{statement}
 use Rattle.store_blocks.proofs.slot.read_slot.Tie as tie
@@ -14,7 +15,7 @@ read-slot-spec =
     (λ c. search slotting)
     (search needs)
     (search needs)
-    (λ c κs. search verdict-blocks)
+    (λ c κs. search (verdict-blocks, good-dwords))
     (search needs)
     (search needs)
     (λ c. search slotting)

@@ -5,7 +5,9 @@ use Prim.Native.Nat.{_≤_, _-_}
 use native.Mathlib.Numerals.{add-one-le}
 use borrow.Author.Needs.{needs}
 use Rattle.laws.specs.Below.{anyBelow}
-use Rattle.store_directory.specs.Kind.{ownsAt, kind-next, finding}
+use Rattle.store_directory.specs.Kind.{ownsAt}
+use Rattle.store_directory.specs.KindScan.{kind-next}
+use Rattle.store_directory.specs.KindScan.{finding}
 use Rattle.store_directory.proofs.kind.block_kind.Statement.{statement}
 use Rattle.store_directory.proofs.kind.block_kind.Tie as tie
 

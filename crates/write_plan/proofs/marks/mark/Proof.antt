@@ -4,17 +4,18 @@ use Prim.Native.Nat.{_≤_, _-_}
 use native.Mathlib.Omega.{arith}
 use Rattle.laws.specs.Arrays.{Filled, filled-none, filled-more}
 use Rattle.store_directory.specs.StoreLaws.{directory-few}
-use Rattle.write_plan.specs.CandidateMarks.{sharesEntry, keepsEntry}
-use Rattle.write_plan.specs.CandidateMarkLaws.{shares-is, keeps-is, marks-made}
+use Rattle.processor_list.specs.Processors.{listOf}
+use Rattle.write_plan.specs.CandidateMarks.{sharesEntry, neededEntry}
+use Rattle.write_plan.specs.CandidateMarkLaws.{shares-is, needed-is, marks-made}
 use Rattle.write_plan.proofs.marks.mark.Statement.{statement}
 use Rattle.write_plan.proofs.marks.mark.Tie as tie
 
 abbrev Inv-loop : tie.InvT-loop
-Inv-loop store signatures platforms marks candidate d «data» pairs shared₀ keeps₀ i₀ shared keeps i =
-    (i ≤ d .count) × (d .count ≤ 32) × Filled false 32 (sharesEntry store candidate) i shared × Filled false 32 (keepsEntry store signatures platforms candidate) i keeps
+Inv-loop store signatures platforms marks candidate d «data» pairs shared₀ needed₀ i₀ shared needed i =
+    (i ≤ d .count) × (d .count ≤ 32) × Filled false 32 (sharesEntry store candidate) i shared × Filled false 32 (neededEntry store (listOf signatures platforms) candidate) i needed
 
 abbrev μ-loop : tie.MeasureT-loop
-μ-loop store signatures platforms marks candidate d «data» pairs shared₀ keeps₀ i₀ shared keeps i = d .count - i
+μ-loop store signatures platforms marks candidate d «data» pairs shared₀ needed₀ i₀ shared needed i = d .count - i
 
 loop-holds : tie.Need-loop-holds Inv-loop μ-loop
 loop-holds c = (omega arith, directory-few _ _ (c .before .before .before .before .before .before .pre .0), filled-none _ _ _, filled-none _ _ _)
@@ -28,14 +29,14 @@ loop-again c =
       omega arith,
       inv .1,
       filled-more _ _ _ _ _ _ (inv .2) (omega arith) (shares-is _ _ _ _ _ _ (pre .0) part (c .before .shares-with .ensures)),
-      filled-more _ _ _ _ _ _ (inv .3) (omega arith) (keeps-is _ _ _ _ _ _ (pre .0) part _ _ _ (pre .1 .1) (c .keeping .ensures)),
+      filled-more _ _ _ _ _ _ (inv .3) (omega arith) (needed-is _ _ _ _ _ _ (pre .0) part _ _ (pre .1 .1) (c .is-needed .ensures)),
     )
 
 returns : tie.Need-returns Inv-loop μ-loop
 returns c =
     let at = c .before .before .before in
     let inv = at .loop .inv in
-    marks-made _ _ _ _ _ _ _ _ (at .before .before .before .before .before .before .before .pre .0) (inv .1) (inv .2) (inv .3) (omega arith) (omega arith)
+    marks-made _ _ _ _ _ _ _ (at .before .before .before .before .before .before .before .pre .0) (inv .1) (inv .2) (inv .3) (omega arith) (omega arith)
 
 pub mark-spec : {M : Type 1} → statement M
 mark-spec =

@@ -1,0 +1,77 @@
+-- The starred cases, proved by evaluation.
+--   starred    the table holds
+--   p-made     the programs write the same P
+use Prim.Native.Nat.{ℕ, _+_, _*_, _%_, _/_, _^_, _<_}
+use mathlib.Core.Path.{_≡_, refl}
+use mathlib.Core.Bool.{Bool, true, false, _&&_, and-false}
+use mathlib.Core.List.{List, [], _∷_, _++_}
+use native.Mathlib.Omega.{arith}
+use lib.Dec.{leb, eqb}
+use lib.ListN.{replicate}
+use borrow.Author.Tests.{ne-eqb}
+use Rattle.laws.specs.Below.{allBelow, anyBelow}
+use Rattle.laws.specs.Count.{countBelow}
+use Rattle.laws.specs.Least.{least}
+use Rattle.laws.specs.Unless.{unless}
+use Rattle.laws.specs.LowByte.{bit}
+use Rattle.bytes_dwords.specs.Dword.{dword}
+use Rattle.bytes_dwords.specs.Sum.{dwordsOf, total, dwordSum}
+use Rattle.update_sizes.specs.Sizes.{dataSizeOf, totalSizeOf, sizesOk, entriesOf, blocksOf, entryOffset}
+use Rattle.update_header.specs.Fields.{dataSize, totalSize, tableCount, entryCount}
+use Rattle.update_header.specs.Checks.{headerOk, sizesFit}
+use Rattle.update_verdict.specs.Sums.{sumOf, headerSum, entryOk, table, sumsOk}
+use Rattle.update_verdict.specs.Verdict.{verdict}
+use Rattle.update_verdict.specs.declared.Verdict.{Verdict}
+use Rattle.update_verdict.specs.declared.Verdict.the-variants.{BadHeader}
+use Rattle.update_coverage.specs.Covers.{pairCount, signatureOffset, flagsOffset, signatureAt, flagsAt, platformsAt, names, pairCovers, coversAt, covers}
+use Rattle.write_marks.specs.Against.{touchesByNumber, emptiedByNumber, rulesOut, loses, ruledOut, lost}
+use Rattle.write_placement.specs.Choose.{choose}
+use Rattle.write_plan.specs.Plan.{placed}
+use Rattle.write_plan.specs.VerdictCode.{verdictAh}
+use Rattle.call_answers.specs.Codes.{INVALID-HEADER, INVALID-HEADER-CS}
+use Rattle.bytes_copy.specs.Paste.{putAt}
+use Rattle.test_samples.specs.SampleBytes.{put}
+use Rattle.test_samples.specs.Make as sample
+use Rattle.test_cases.specs.Starred.{bytes, p, stored, answer, stale-first, two-stale, alternating, codeOf, Code, Starred}
+
+-- a size rule is broken
+sizes-code : (d t n : ℕ) → sizesOk d t n ≡ false → Code d t n INVALID-HEADER
+unfolding verdict sizesFit unless
+sizes-code d t n h s e f g = rw (e, f, g, h) (go (headerOk s))
+  where
+    go : (x : Bool) → verdictAh (unless x BadHeader BadHeader) ≡ INVALID-HEADER
+    go true = refl
+    go false = refl
+
+-- with a checksum c the dwords of P with revision 8 sum to c + 07181FF8h
+checked : (c : ℕ) → c < 2 ^ 32 → (c ≡ 0xF8E7E008 → ⊥) → codeOf (p 8 c) ≡ INVALID-HEADER-CS
+unfolding p bytes verdict unless headerOk sizesFit sumsOk table dwordSum dwordsOf total dword dataSize totalSize dataSizeOf totalSizeOf sizesOk tableCount entriesOf entryCount blocksOf allBelow entryOk entryOffset sumOf headerSum
+checked c l n = rw (ne-eqb _ 0 (λ e. n (omega arith)))
+
+pub starred : Starred
+unfolding p bytes verdict unless headerOk sizesFit sumsOk table dwordSum dwordsOf total dword dataSize totalSize dataSizeOf totalSizeOf sizesOk tableCount entriesOf entryCount blocksOf allBelow entryOk entryOffset sumOf headerSum covers coversAt pairCovers pairCount signatureAt signatureOffset platformsAt flagsAt flagsOffset names bit anyBelow answer stored stale-first two-stale alternating placed choose least ruledOut rulesOut emptiedByNumber touchesByNumber lost loses countBelow
+starred =
+    record {
+      p-is-valid = refl;
+      p-with-checksum-F8E7E00A = refl;
+      p-with-revision-8 = refl;
+      revision-8-needs = checked;
+      p-covers-650-1 = refl;
+      p-covers-650-2 = refl;
+      p-not-650-0 = refl;
+      d-976-t-1024 = λ n. (refl, refl);
+      d-1968-t-2048-n-1 = refl;
+      d-1212-t-2048-n-64 = refl;
+      d-1200-t-2048-n-65 = sizes-code 1200 2048 65 refl;
+      d-964-t-1024 = λ n. sizes-code 964 1024 n (rw (ne-eqb 1024 (48 + 964 + 20 + 12 * n) (λ e. omega arith)) (and-false (leb 1 n && leb n 64)));
+      d-32720-t-32768 = λ n. (refl, refl);
+      t-33792 = λ d n. sizes-code d 33792 n (rw (and-false (eqb (d % 4) 0 && true)));
+      stale-then-three-unused = refl;
+      stale-of-two-stale-of-one-unused = refl;
+      needed-stale-needed-stale = refl;
+    }
+
+-- in a buffer of zeros
+pub p-made : sample.p (replicate 2048 0) 7 0xF8E7E009 ≡ p 7 0xF8E7E009
+unfolding p bytes sample.p sample.header put putAt
+p-made = refl

@@ -1,0 +1,159 @@
+//! Tests of the random calls: what they reach, and how much they lend.
+
+use crate::calls::{Answer, Call, Request, CANDIDATE_ROOM, DESTINATION_ROOM, STORE_ROOM};
+use crate::generate::{Generator, Style};
+use crate::model;
+use crate::store::Store;
+use crate::tally::Tally;
+use crate::write::ALL_SETS;
+use std::collections::BTreeMap;
+
+const CALLS: usize = 20_000;
+
+/// How often each answer has to come up in so many calls.
+const OFTEN: usize = 10;
+
+/// Every answer that document 01 knows: the call, AX, and the case in word 4.
+const ANSWERS: [(&str, u32, u32); 25] = [
+    ("unknown function", 0x8600, 4),
+    ("unknown sub-function", 0x8600, 4),
+    ("presence", 0x0000, 0),
+    ("presence", 0x9201, 4),
+    ("write", 0x0000, 1),
+    ("write", 0x9201, 4),
+    ("write", 0x9202, 4),
+    ("write", 0x9304, 4),
+    ("write", 0x9305, 4),
+    ("write", 0x9400, 4),
+    ("write", 0x9500, 4),
+    ("write", 0x9600, 4),
+    ("write", 0x9700, 4),
+    ("write", 0x9800, 4),
+    ("control", 0x0000, 2),
+    ("control", 0x8600, 4),
+    ("read", 0x0000, 3),
+    ("read", 0x9201, 4),
+    ("read", 0x9203, 4),
+    ("read", 0x9900, 4),
+    ("read", 0x9A00, 4),
+    ("load", 0x0000, 0),
+    ("load", 0x0000, 1),
+    ("load", 0x9201, 2),
+    ("load", 0x9202, 2),
+];
+
+/// The call's name, by its numbers.
+fn name(call: &Call) -> &'static str {
+    match call.request {
+        Request::Load { .. } => "load",
+        Request::Update {
+            function,
+            sub_function,
+            ..
+        } => match (function, sub_function) {
+            (0xD042, 0) => "presence",
+            (0xD042, 1) => "write",
+            (0xD042, 2) => "control",
+            (0xD042, 3) => "read",
+            (0xD042, _) => "unknown sub-function",
+            _ => "unknown function",
+        },
+    }
+}
+
+/// Draws many calls, and shows each with its answer.
+fn each_call(style: Style, seed: u64, mut show: impl FnMut(&Call, &Answer)) {
+    let mut generator = Generator::new(seed, style);
+    for _ in 0..CALLS {
+        let call = generator.draw();
+        let answer = model::answer(call);
+        show(call, &answer);
+        generator.answered(answer);
+    }
+}
+
+#[test]
+fn every_answer_is_reached_often_and_no_other() {
+    for (style, seed) in [(Style::Wide, 1), (Style::Compact, 2)] {
+        let mut counts = BTreeMap::from(ANSWERS.map(|answer| (answer, 0)));
+        let mut tally = Tally::default();
+        assert_eq!(tally.missing().len(), ANSWERS.len());
+        each_call(style, seed, |call, answer| {
+            let line = (name(call), answer.ax, answer.words[4]);
+            *counts.get_mut(&line).expect("an answer of document 01") += 1;
+            tally.add(call, answer);
+        });
+        for (line, count) in &counts {
+            assert!(*count >= OFTEN, "{line:X?}: {count}");
+        }
+        assert!(tally.missing().is_empty(), "{:X?}", tally.missing());
+    }
+}
+
+#[test]
+fn most_writes_pass_the_checks_up_to_the_revision() {
+    for (style, seed) in [(Style::Wide, 1), (Style::Compact, 2)] {
+        let mut all = 0;
+        let mut past = 0;
+        let mut tally = Tally::default();
+        each_call(style, seed, |call, answer| {
+            if name(call) == "write" {
+                all += 1;
+                past += u64::from([0, 0x9304, 0x9305, 0x9700].contains(&answer.ax));
+            }
+            tally.add(call, answer);
+        });
+        assert_eq!(tally.past_revision(), (past, all));
+        assert!(2 * past > all, "{past} of {all}");
+    }
+}
+
+#[test]
+fn accepted_writes_are_of_every_kind() {
+    for (style, seed) in [(Style::Wide, 1), (Style::Compact, 2)] {
+        let mut emptied = [0; 4];
+        let mut starts = [0; 2];
+        let mut crowded = 0;
+        let mut wide = 0;
+        each_call(style, seed, |call, answer| {
+            if name(call) != "write" || answer.ax != 0 {
+                return;
+            }
+            emptied[answer.words[6].min(3) as usize] += 1;
+            starts[usize::from(answer.words[5] > 0)] += 1;
+            let before = Store::parse(&call.store).unwrap();
+            crowded += usize::from(before.held.len() > ALL_SETS);
+            let after = Store::parse(&answer.store).unwrap();
+            let start = answer.words[5] as usize;
+            let held = after.held.iter().find(|held| held.first == start);
+            wide += usize::from(held.unwrap().blocks > 8);
+        });
+        let told = format!("{emptied:?} {starts:?} {crowded} {wide}");
+        let kinds = emptied.iter().chain(&starts).chain([&crowded, &wide]);
+        assert!(kinds.into_iter().all(|count| *count >= 50), "{told}");
+    }
+}
+
+#[test]
+fn no_call_lends_more_than_there_is_room() {
+    for (style, seed) in [(Style::Wide, 1), (Style::Compact, 2)] {
+        let mut most = [0; 5];
+        each_call(style, seed, |call, _| {
+            let lengths = [
+                call.store.len(),
+                call.candidate.len(),
+                call.destination.len(),
+                call.signatures.len(),
+                call.platforms.len(),
+            ];
+            for (most, length) in most.iter_mut().zip(lengths) {
+                *most = length.max(*most);
+            }
+        });
+        let rooms = [STORE_ROOM, CANDIDATE_ROOM, DESTINATION_ROOM, 16, 16];
+        assert!(
+            most.iter().zip(rooms).all(|(most, room)| *most <= room),
+            "{most:?}"
+        );
+    }
+}
