@@ -1,6 +1,6 @@
 -- The catalogue of a store (document 01, "The catalogue"). Numbers are decimal, without padding, single spaces, one newline a line.
 --   space, newline .. badText      the fixed parts, in ASCII
---   largestStore, inputRoom        the bytes of 32 blocks, and one more
+--   largestStore, inputRoom        the bytes of the most blocks, 65,536, and one more
 --   lineOf             the line of an update, of its five numbers
 --   catalogueLine      the line of the update of k blocks that begins at block b
 --   kindLine           what a block of a kind adds
@@ -10,7 +10,7 @@
 --   unusedTo           how many of the blocks below n are unused
 --   catalogueText      the whole text
 --   inputText          the text of any input
-use Prim.Native.Nat.{ℕ, zero, suc, _+_}
+use Prim.Native.Nat.{ℕ, zero, suc, _+_, _*_}
 use mathlib.Core.Bool.{Bool, true, false}
 use mathlib.Core.List.{List, [], _∷_, _++_}
 use lib.ListN.{length}
@@ -19,7 +19,8 @@ use Rattle.laws.specs.Unless.{unless}
 use Rattle.laws.specs.Count.{countBelow}
 use Rattle.update_header.specs.Fields.{revision}
 use Rattle.update_coverage.specs.Platforms.{platformCount, lowestPlatform}
-use Rattle.store_blocks.specs.Blocks.{fromBlock, blockCount}
+use Rattle.update_sizes.specs.Sizes.{block}
+use Rattle.store_blocks.specs.Blocks.{mostBlocks, fromBlock, blockCount}
 use Rattle.store_directory.specs.Scan.{storeOk}
 use Rattle.store_directory.specs.Kind.{kindAt}
 use Rattle.store_directory.specs.declared.kind.Kind.{Kind}
@@ -43,7 +44,7 @@ abbrev pub badText : List ℕ
 badText = 98 ∷ 97 ∷ 100 ∷ 32 ∷ 115 ∷ 116 ∷ 111 ∷ 114 ∷ 101 ∷ 10 ∷ []
 
 abbrev pub largestStore : ℕ
-largestStore = 65536
+largestStore = mostBlocks * block
 
 abbrev pub inputRoom : ℕ
 inputRoom = largestStore + 1

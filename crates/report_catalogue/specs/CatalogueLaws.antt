@@ -1,5 +1,5 @@
 -- Laws of the whole text: the walk of the entries, and the two ways to the text.
---   count-is, count-small    a store has so many blocks as the code counts, and no more than 32
+--   count-is, count-small    a store has so many blocks as the code counts, and no more than the most
 --   head-long                the first line's word
 --   walk-none                before the first entry
 --   walk-more                what an entry adds to the lines
@@ -17,7 +17,8 @@ use lib.Seq.{take-all, length-take-le}
 use borrow.Author.Tests.{le-leb, lt-leb}
 use Rattle.laws.specs.Orders.{le-or-lt}
 use Rattle.laws.specs.Unless.{unless}
-use Rattle.store_blocks.specs.Blocks.{blockCount, lengthOk}
+use Rattle.update_sizes.specs.Sizes.{block}
+use Rattle.store_blocks.specs.Blocks.{mostBlocks, blockCount, lengthOk}
 use Rattle.store_directory.specs.Scan.{storeOk, directory}
 use Rattle.store_directory.specs.StoreLaws.{directory-ok}
 use Rattle.store_directory.specs.ValidLaws.{store-valid}
@@ -32,11 +33,11 @@ use Rattle.report_catalogue.specs.Catalogue.{catalogueLine, unusedTo, ca
 use Rattle.report_catalogue.specs.Walk.{entriesTo, usedTo}
 use Rattle.report_catalogue.specs.WalkLaws.{entries-none, entries-more, lines-entries, free-entries}
 
-pub count-is : (s : List ℕ) → length s / 2048 ≡ blockCount s
+pub count-is : (s : List ℕ) → length s / block ≡ blockCount s
 unfolding blockCount
 count-is s = refl
 
-pub count-small : (s : List ℕ) (n : ℕ) → storeOk s ≡ true → n ≡ blockCount s → n ≤ 32
+pub count-small : (s : List ℕ) (n : ℕ) → storeOk s ≡ true → n ≡ blockCount s → n ≤ mostBlocks
 count-small s n ok e = omega (arith, store-valid s ok .few)
 
 pub head-long : (t r : Text) → t ≡ noText → r ≡ added t blocksWord → r .len ≡ 7
@@ -69,7 +70,7 @@ module _ (s : List ℕ) (d : Directory) (e : d ≡ directory s) where
 pub text-short : (s : List ℕ) (t : Text) → t ≡ added noText (catalogueText s) → t .len ≤ textRoom → length (catalogueText s) ≤ textRoom
 text-short s t e l = rw (← made-text t (catalogueText s) e) (omega (arith, length-take (t .len) (t .bytes)))
 
--- more bytes than 32 blocks have are no store
+-- more bytes than the most blocks have are no store
 long-bad : (s : List ℕ) → length s ≡ inputRoom → catalogueText s ≡ badText
 unfolding catalogueText unless storeOk lengthOk
 long-bad s e = rw e
