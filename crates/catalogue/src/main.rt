@@ -5,13 +5,11 @@ ghost use Rattle.io.specs.Counts.{Counts};
 ghost use Rattle.report_catalogue.specs.Catalogue.{inputRoom};
 use libc::STDIN_FILENO;
 use libc::STDOUT_FILENO;
+use report_catalogue::LARGEST_STORE;
 use report_text::ROOM;
 use report_text::Report;
 
-// 32 blocks of 2,048 bytes.
-const LARGEST_STORE: usize = 65536;
-
-// One byte more: more input than that makes no difference.
+// One byte more than the largest store has: more input than that makes no difference.
 const INPUT_ROOM: usize = LARGEST_STORE + 1;
 
 fn space() -> [u8; INPUT_ROOM]

@@ -1,16 +1,16 @@
 -- The catalogue of a store (document 01, "The catalogue"). Numbers are decimal, without padding, single spaces, one newline a line.
 --   space, newline .. badText      the fixed parts, in ASCII
---   largestStore, inputRoom        the bytes of 32 blocks, and one more
+--   largestStore, inputRoom        the bytes of the most blocks, 65,536, and one more
 --   lineOf             the line of an update, of its five numbers
 --   catalogueLine      the line of the update of k blocks that begins at block b
 --   kindLine           what a block of a kind adds
 --   blockLine          what block b adds: the line of the update that begins there, or nothing
 --   linesTo            the lines of the updates that begin at the blocks below n, by start
 --   isUnused, unusedAt     a kind is Unused; the kind of block b is
---   freeCount          F, the count of unused blocks
+--   unusedTo           how many of the blocks below n are unused
 --   catalogueText      the whole text
 --   inputText          the text of any input
-use Prim.Native.Nat.{ℕ, zero, suc, _+_}
+use Prim.Native.Nat.{ℕ, zero, suc, _+_, _*_}
 use mathlib.Core.Bool.{Bool, true, false}
 use mathlib.Core.List.{List, [], _∷_, _++_}
 use lib.ListN.{length}
@@ -19,7 +19,8 @@ use Rattle.laws.specs.Unless.{unless}
 use Rattle.laws.specs.Count.{countBelow}
 use Rattle.update_header.specs.Fields.{revision}
 use Rattle.update_coverage.specs.Platforms.{platformCount, lowestPlatform}
-use Rattle.store_blocks.specs.Blocks.{fromBlock, blockCount}
+use Rattle.update_sizes.specs.Sizes.{block}
+use Rattle.store_blocks.specs.Blocks.{mostBlocks, fromBlock, blockCount}
 use Rattle.store_directory.specs.Scan.{storeOk}
 use Rattle.store_directory.specs.Kind.{kindAt}
 use Rattle.store_directory.specs.declared.kind.Kind.{Kind}
@@ -43,7 +44,7 @@ abbrev pub badText : List ℕ
 badText = 98 ∷ 97 ∷ 100 ∷ 32 ∷ 115 ∷ 116 ∷ 111 ∷ 114 ∷ 101 ∷ 10 ∷ []
 
 abbrev pub largestStore : ℕ
-largestStore = 65536
+largestStore = mostBlocks * block
 
 abbrev pub inputRoom : ℕ
 inputRoom = largestStore + 1
@@ -51,7 +52,8 @@ inputRoom = largestStore + 1
 -- its start, blocks, revision in eight upper-case hex digits, how many platforms the header flags name, and the lowest platform
 unfoldable pub lineOf : ℕ → ℕ → ℕ → ℕ → ℕ → List ℕ
 lineOf start blocks revision platforms lowest =
-    (decimal start ++ space) ++ (decimal blocks ++ space) ++ hex8 revision ++ space ++ (decimal platforms ++ space) ++ (decimal lowest ++ newline)
+    (decimal start ++ space) ++ (decimal blocks ++ space) ++ hex8 revision ++ space
+    ++ (decimal platforms ++ space) ++ (decimal lowest ++ newline)
 
 abbrev pub catalogueLine : List ℕ → ℕ → ℕ → List ℕ
 catalogueLine s b k = lineOf b k (revision (fromBlock s b)) (platformCount (fromBlock s b)) (lowestPlatform (fromBlock s b))
@@ -76,16 +78,17 @@ isUnused Later = false
 unfoldable pub unusedAt : List ℕ → ℕ → Bool
 unusedAt s b = isUnused (kindAt s b)
 
-unfoldable pub freeCount : List ℕ → ℕ
-freeCount s = countBelow (blockCount s) (unusedAt s)
+unfoldable pub unusedTo : List ℕ → ℕ → ℕ
+unusedTo s n = countBelow n (unusedAt s)
 
--- the line `blocks N`; per update, by start, its line; then the line `free F`. Of a bad store `bad store` and a newline only
+-- the line `blocks N`; per update, by start, its line; then the line `free F`, F being the count of unused blocks.
+-- Of a bad store `bad store` and a newline only.
 unfoldable pub catalogueText : List ℕ → List ℕ
 catalogueText s =
     unless (storeOk s) badText
     (blocksWord ++ (decimal (blockCount s) ++ newline)
     ++ linesTo s (blockCount s)
-    ++ freeWord ++ (decimal (freeCount s) ++ newline))
+    ++ freeWord ++ (decimal (unusedTo s (blockCount s)) ++ newline))
 
 -- "for a bad store or more than 65,536 bytes it writes `bad store` and a newline only"
 unfoldable pub inputText : List ℕ → List ℕ

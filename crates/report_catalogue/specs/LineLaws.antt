@@ -35,7 +35,8 @@ module _ (u : List ℕ) (n : ℕ) where
   unfolding lowestPlatform
   low-platform e = omega (arith, first-is 8 (names (platformsAt u 0)) .within)
 
-pub entry-small : (s : List ℕ) (d : Directory) (i : ℕ) → storeOk s ≡ true → d ≡ directory s → i < d .count → TwoDigits (startOf d i) × TwoDigits (sizeOf d i)
+pub entry-small : (s : List ℕ) (d : Directory) (i : ℕ) → storeOk s ≡ true → d ≡ directory s → i < d .count
+    → TwoDigits (startOf d i) × TwoDigits (sizeOf d i)
 entry-small s d i ok e l =
     let h = listing s ok d e in
     let v = store-valid s ok .few in
@@ -44,6 +45,6 @@ entry-small s d i ok e l =
 pub revision-long : (t u r : Text) (n b : ℕ) → u ≡ added t (hex8 n) → r ≡ added u (b ∷ []) → r .len ≡ t .len + 9
 revision-long t u r n b e f = omega (arith, added-long t u (hex8 n) e, hex-long n, added-long u r (b ∷ []) f)
 
-pub line-is : (s u : List ℕ) (b k v n m : ℕ) (t r : Text) → u ≡ fromBlock s b → v ≡ revision u → n ≡ platformCount u → m ≡ lowestPlatform u
-    → r ≡ added t (lineOf b k v n m) → r ≡ added t (catalogueLine s b k)
+pub line-is : (s u : List ℕ) (b k v n m : ℕ) (t r : Text) → u ≡ fromBlock s b → v ≡ revision u → n ≡ platformCount u
+    → m ≡ lowestPlatform u → r ≡ added t (lineOf b k v n m) → r ≡ added t (catalogueLine s b k)
 line-is s u b k v n m t r e f g h a = rw (← e, ← f, ← g, ← h) a

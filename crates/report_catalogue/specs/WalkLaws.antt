@@ -6,7 +6,7 @@
 --   free-entries                  the blocks of no entry are the unused ones
 use Prim.Native.Nat.{ℕ, zero, suc, _+_, _-_, _<_, _≤_}
 use mathlib.Core.Path.{_≡_, refl, sym, ap, _∙_}
-use mathlib.Core.Bool.{Bool, true, false, cond}
+use mathlib.Core.Bool.{true}
 use mathlib.Core.List.{List, [], _++_, append-nil}
 use mathlib.Core.Logic.{⊎-elim}
 use native.Mathlib.Nat.{eq-or-lt-of-le, le-of-suc-le-suc, not-suc-le-zero, add-zero, add-suc}
@@ -15,17 +15,16 @@ use native.Mathlib.Omega.{arith}
 use Rattle.laws.specs.Orders.{le-or-lt}
 use Rattle.laws.specs.Count.{countBelow}
 use Rattle.store_blocks.specs.Blocks.{blockCount}
-use Rattle.store_directory.specs.Scan.{sizeAt, slotAt, begins, first, storeOk, directory}
-use Rattle.store_directory.specs.Kind.{kindOf, kindAt}
+use Rattle.store_directory.specs.Scan.{sizeAt, first, storeOk, directory}
+use Rattle.store_directory.specs.Kind.{kindAt}
 use Rattle.store_directory.specs.Valid.{Owned}
 use Rattle.store_directory.specs.BlockLaws.{later-blocks}
 use Rattle.store_directory.specs.LayoutLaws.{first-parts}
 use Rattle.store_directory.specs.DirectoryEntries.{startOf, sizeOf}
 use Rattle.store_directory.specs.DirectoryLaws.{Listing, listing, kind-free}
-use Rattle.store_directory.specs.declared.kind.Kind.{Kind}
 use Rattle.store_directory.specs.declared.kind.Kind.the-variants.{Unused, First, Later}
 use Rattle.store_directory.specs.declared.Directory.{Directory}
-use Rattle.report_catalogue.specs.Catalogue.{kindLine, blockLine, linesTo, isUnused, unusedAt, freeCount}
+use Rattle.report_catalogue.specs.Catalogue.{kindLine, linesTo, unusedAt, unusedTo}
 use Rattle.report_catalogue.specs.Walk.{entryLine, entriesTo, usedTo, endTo}
 
 pub entries-none : (s : List ℕ) (d : Directory) → entriesTo s d 0 ≡ []
@@ -46,22 +45,22 @@ used-more d i = rw (add-one i)
 
 -- what a block of a kind adds to the lines, and to the count of unused blocks
 module _ (s : List ℕ) (b : ℕ) where
-  pass-unused : kindAt s b ≡ Unused → (linesTo s (suc b) ≡ linesTo s b) × (countBelow (suc b) (unusedAt s) ≡ countBelow b (unusedAt s) + 1)
-  unfolding linesTo kindLine countBelow unusedAt
+  pass-unused : kindAt s b ≡ Unused → (linesTo s (suc b) ≡ linesTo s b) × (unusedTo s (suc b) ≡ unusedTo s b + 1)
+  unfolding linesTo kindLine unusedTo countBelow unusedAt
   pass-unused e = rw e (append-nil (linesTo s b), refl)
 
-  pass-first : (k : ℕ) → kindAt s b ≡ First k → (linesTo s (suc b) ≡ linesTo s b ++ kindLine s b (First k)) × (countBelow (suc b) (unusedAt s) ≡ countBelow b (unusedAt s))
-  unfolding linesTo kindLine countBelow unusedAt
+  pass-first : (k : ℕ) → kindAt s b ≡ First k → (linesTo s (suc b) ≡ linesTo s b ++ kindLine s b (First k)) × (unusedTo s (suc b) ≡ unusedTo s b)
+  unfolding linesTo kindLine unusedTo countBelow unusedAt
   pass-first k e = rw e (refl, refl)
 
-  pass-later : kindAt s b ≡ Later → (linesTo s (suc b) ≡ linesTo s b) × (countBelow (suc b) (unusedAt s) ≡ countBelow b (unusedAt s))
-  unfolding linesTo kindLine countBelow unusedAt
+  pass-later : kindAt s b ≡ Later → (linesTo s (suc b) ≡ linesTo s b) × (unusedTo s (suc b) ≡ unusedTo s b)
+  unfolding linesTo kindLine unusedTo countBelow unusedAt
   pass-later e = rw e (append-nil (linesTo s b), refl)
 
 -- the k blocks from b on
 module _ (s : List ℕ) (b : ℕ) where
   all-unused : (k : ℕ) → ((j : ℕ) → j < k → kindAt s (b + j) ≡ Unused)
-      → (linesTo s (b + k) ≡ linesTo s b) × (countBelow (b + k) (unusedAt s) ≡ countBelow b (unusedAt s) + k)
+      → (linesTo s (b + k) ≡ linesTo s b) × (unusedTo s (b + k) ≡ unusedTo s b + k)
   all-unused zero h = rw (add-zero b) (refl, sym (add-zero _))
   all-unused (suc k) h =
       let u = all-unused k (λ j l. h j (omega arith)) in
@@ -69,7 +68,7 @@ module _ (s : List ℕ) (b : ℕ) where
       rw (add-suc b k) (v .0 ∙ u .0, omega (arith, u .1, v .1))
 
   all-later : (k : ℕ) → ((j : ℕ) → j < k → kindAt s (b + j) ≡ Later)
-      → (linesTo s (b + k) ≡ linesTo s b) × (countBelow (b + k) (unusedAt s) ≡ countBelow b (unusedAt s))
+      → (linesTo s (b + k) ≡ linesTo s b) × (unusedTo s (b + k) ≡ unusedTo s b)
   all-later zero h = rw (add-zero b) (refl, refl)
   all-later (suc k) h =
       let u = all-later k (λ j l. h j (omega arith)) in
@@ -103,7 +102,8 @@ module _ (s : List ℕ) (ok : storeOk s ≡ true) (d : Directory) (e : d ≡ dir
       (eq-or-lt-of-le (le-of-suc-le-suc l))
 
   -- a block behind the entries before number i, and before those from i on
-  gap : (i c : ℕ) → i ≤ d .count → endTo d i ≤ c → c < blockCount s → ((j : ℕ) → i ≤ j → j < d .count → c < startOf d j) → kindAt s c ≡ Unused
+  gap : (i c : ℕ) → i ≤ d .count → endTo d i ≤ c → c < blockCount s → ((j : ℕ) → i ≤ j → j < d .count → c < startOf d j)
+      → kindAt s c ≡ Unused
   gap i c l p q h = sym (kind-free s ok d e c q none)
     where
       none : (a : ℕ) → Owned s (first s) a c → ⊥
@@ -127,15 +127,18 @@ module _ (s : List ℕ) (ok : storeOk s ≡ true) (d : Directory) (e : d ≡ dir
 
   -- the lines and the count up to block b, where the entries before number i are passed
   Passed : ℕ → ℕ → Type 0
-  Passed i b = (linesTo s b ≡ entriesTo s d i) × (countBelow b (unusedAt s) + usedTo d i ≡ b)
+  Passed i b = (linesTo s b ≡ entriesTo s d i) × (unusedTo s b + usedTo d i ≡ b)
 
   -- up to a block before which no further entry begins
-  pass-gap : (i b : ℕ) → i ≤ d .count → endTo d i ≤ b → b ≤ blockCount s → ((j : ℕ) → i ≤ j → j < d .count → b ≤ startOf d j) → Passed i (endTo d i) → Passed i b
+  pass-gap : (i b : ℕ) → i ≤ d .count → endTo d i ≤ b → b ≤ blockCount s → ((j : ℕ) → i ≤ j → j < d .count → b ≤ startOf d j)
+      → Passed i (endTo d i) → Passed i b
   unfolding Passed
   pass-gap i b l p q h u =
       let f : endTo d i + (b - endTo d i) ≡ b = omega arith in
-      let g = all-unused s (endTo d i) (b - endTo d i) (λ j m. gap i (endTo d i + j) l (omega arith) (omega arith) (λ k x y. omega (arith, h k x y))) in
-      let w : (linesTo s b ≡ linesTo s (endTo d i)) × (countBelow b (unusedAt s) ≡ countBelow (endTo d i) (unusedAt s) + (b - endTo d i)) = rw f at g in
+      let k : (j : ℕ) → j < b - endTo d i → kindAt s (endTo d i + j) ≡ Unused =
+      λ j m. gap i (endTo d i + j) l (omega arith) (omega arith) (λ k x y. omega (arith, h k x y)) in
+      let g = all-unused s (endTo d i) (b - endTo d i) k in
+      let w : (linesTo s b ≡ linesTo s (endTo d i)) × (unusedTo s b ≡ unusedTo s (endTo d i) + (b - endTo d i)) = rw f at g in
       (w .0 ∙ u .0, omega (arith, w .1, u .1))
 
   -- the blocks of entry i
@@ -146,11 +149,11 @@ module _ (s : List ℕ) (ok : storeOk s ≡ true) (d : Directory) (e : d ≡ dir
       let f = pass-first s (startOf d i) (sizeOf d i) (entry-first i l) in
       let g : suc (startOf d i) + (sizeOf d i - 1) ≡ startOf d i + sizeOf d i = omega arith in
       let t = all-later s (suc (startOf d i)) (sizeOf d i - 1) (λ j m. entry-later i j l (omega arith)) in
-      let w : (linesTo s (startOf d i + sizeOf d i) ≡ linesTo s (suc (startOf d i))) × (countBelow (startOf d i + sizeOf d i) (unusedAt s) ≡ countBelow (suc (startOf d i)) (unusedAt s)) = rw g at t in
+      let w : (linesTo s (startOf d i + sizeOf d i) ≡ linesTo s (suc (startOf d i))) × (unusedTo s (startOf d i + sizeOf d i) ≡ unusedTo s (suc (startOf d i))) = rw g at t in
       (w .0 ∙ f .0 ∙ ap (λ l. l ++ entryLine s d i) (u .0), omega (arith, w .1, f .1, u .1))
 
   passed : (i : ℕ) → i ≤ d .count → Passed i (endTo d i)
-  unfolding Passed endTo linesTo entriesTo usedTo countBelow
+  unfolding Passed endTo linesTo entriesTo usedTo unusedTo countBelow
   passed zero l = (refl, refl)
   passed (suc i) l =
       pass-entry i l (pass-gap i (startOf d i) (omega arith) (before-start i l) (omega (arith, entries .ends i l)) (starts-up i) (passed i (omega arith)))
@@ -172,6 +175,6 @@ module _ (s : List ℕ) (ok : storeOk s ≡ true) (d : Directory) (e : d ≡ dir
   unfolding Passed
   lines-entries i l m = all-passed i l m .0
 
-  pub free-entries : (i : ℕ) → i ≤ d .count → d .count ≤ i → freeCount s + usedTo d i ≡ blockCount s
-  unfolding Passed freeCount
+  pub free-entries : (i : ℕ) → i ≤ d .count → d .count ≤ i → unusedTo s (blockCount s) + usedTo d i ≡ blockCount s
+  unfolding Passed
   free-entries i l m = all-passed i l m .1

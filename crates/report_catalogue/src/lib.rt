@@ -14,7 +14,11 @@ use report_text::Report;
 use report_text::Text;
 use report_text::give;
 use store_blocks::BLOCK;
+use store_blocks::MOST_BLOCKS;
 use store_directory::Directory;
+
+// The bytes of the most blocks.
+pub const LARGEST_STORE: usize = MOST_BLOCKS * BLOCK;
 
 // The text of a valid store of `n` blocks, whose directory `d` is. A block that no entry has is unused.
 fn listing(s: &[u8], d: Directory, n: u32) -> Text

@@ -67,7 +67,8 @@ take-both size all piece =
     (le-or-lt (length all) size)
 
 -- a piece more, of which k bytes fit
-module _ (buffer : List ℕ) (have : ℕ) (all piece : List ℕ) (g : Gathered buffer have all) (k : ℕ) (e : min (length piece) (length buffer - have) ≡ k) where
+module _ (buffer : List ℕ) (have : ℕ) (all piece : List ℕ) (g : Gathered buffer have all) (k : ℕ)
+    (e : min (length piece) (length buffer - have) ≡ k) where
   inside : have + k ≤ length buffer
   inside = omega (arith, g .count)
 
@@ -89,12 +90,14 @@ module _ (buffer : List ℕ) (have : ℕ) (all piece : List ℕ) (g : Gathered b
         bytes = bytes-more ∙ ap (λ n. take n (all ++ piece)) (sym l);
       }
 
-pub gathered-more : (buffer : List ℕ) (have : ℕ) (all piece : List ℕ) → Gathered buffer have all → Gathered (bytesWith buffer have piece) (countWith buffer have piece) (all ++ piece)
+pub gathered-more : (buffer : List ℕ) (have : ℕ) (all piece : List ℕ) → Gathered buffer have all
+    → Gathered (bytesWith buffer have piece) (countWith buffer have piece) (all ++ piece)
 unfolding fitting
 gathered-more buffer have all piece g = more buffer have all piece g _ refl
 
 -- of a piece that isn't empty a buffer with room takes some bytes: m is how many it holds then, r what it is then
-module _ (d s r : List ℕ) (have n m : ℕ) (l : have < length d) (h : n ≡ 0 → ⊥) (f : n ≡ length s) (e : m ≡ countWith d have s) (g : r ≡ bytesWith d have s) where
+module _ (d s r : List ℕ) (have n m : ℕ) (l : have < length d) (h : n ≡ 0 → ⊥) (f : n ≡ length s)
+    (e : m ≡ countWith d have s) (g : r ≡ bytesWith d have s) where
   add-long : length r ≡ length d
   unfolding fitting
   add-long = ap length g ∙ put-long d have s (min (length s) (length d - have)) (omega arith) (omega arith)

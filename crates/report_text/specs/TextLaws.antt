@@ -7,7 +7,7 @@
 --   made-text      what was added to no text is the text
 --   text-length    the text has as many bytes as count
 use Prim.Native.Nat.{ℕ, _+_, _<_, _≤_}
-use mathlib.Core.Path.{_≡_, ap, _∙_}
+use mathlib.Core.Path.{_≡_, ap}
 use mathlib.Core.List.{List, [], _∷_, _++_}
 use native.Mathlib.Omega.{arith}
 use native.Mathlib.Nat.{zero-add, add-zero, add-assoc}
@@ -22,7 +22,8 @@ pub added-none : (t : Text) → t ≡ added t []
 unfolding added
 added-none t = rw (← put-start (t .bytes) (t .len) [], add-zero (t .len))
 
-pub added-byte : (t r : Text) (b : ℕ) → t .len < length (t .bytes) → r .bytes ≡ set (t .bytes) (t .len) b → r .len ≡ t .len + 1 → r ≡ added t (b ∷ [])
+pub added-byte : (t r : Text) (b : ℕ) → t .len < length (t .bytes) → r .bytes ≡ set (t .bytes) (t .len) b → r .len ≡ t .len + 1
+    → r ≡ added t (b ∷ [])
 unfolding added
 added-byte t r b l e f = rw (← put-one (t .bytes) (t .len) b l, ← e, ← f)
 

@@ -3,7 +3,7 @@
 --   put-one       one element is set
 --   put-both      what is put in two steps, the second behind the first
 use Prim.Native.Nat.{ℕ, _+_, _<_, _≤_}
-use mathlib.Core.Path.{_≡_, refl, sym, _∙_}
+use mathlib.Core.Path.{_≡_, refl, _∙_}
 use mathlib.Core.List.{List, [], _∷_, _++_, append-assoc, append-nil}
 use mathlib.Core.Logic.{⊎-elim}
 use native.Mathlib.Numerals.{add-one}
@@ -44,9 +44,11 @@ module _ (d : List ℕ) (at : ℕ) (xs p : List ℕ) (n : ℕ) (e : p ≡ take a
       (λ (l : length d < at). rw (past d (at + n) (omega arith), append-nil p, past d (at + n + k) (omega arith)) (past p (at + n + k) (omega (arith, few))))
       (le-or-lt at (length d))
 
-pub put-both : (d : List ℕ) (at : ℕ) (xs ys : List ℕ) → putAt (putAt d at xs (length xs)) (at + length xs) ys (length ys) ≡ putAt d at (xs ++ ys) (length (xs ++ ys))
+pub put-both : (d : List ℕ) (at : ℕ) (xs ys : List ℕ)
+    → putAt (putAt d at xs (length xs)) (at + length xs) ys (length ys) ≡ putAt d at (xs ++ ys) (length (xs ++ ys))
 unfolding putAt
 put-both d at xs ys =
+    let p = take at d ++ xs in
     let m : at + length (xs ++ ys) ≡ at + length xs + length ys = omega (arith, length-append xs ys) in
-    rw (take-length xs, take-length ys, take-length (xs ++ ys), front-again d at xs (take at d ++ xs) (length xs) refl refl, behind-again d at xs (take at d ++ xs) (length xs) refl refl (length ys), m)
-    (rw (append-assoc (take at d) xs ys))
+    rw (take-length xs, take-length ys, take-length (xs ++ ys), m)
+    (rw (front-again d at xs p (length xs) refl refl, behind-again d at xs p (length xs) refl refl (length ys), append-assoc (take at d) xs ys))

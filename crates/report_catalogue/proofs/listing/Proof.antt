@@ -1,7 +1,8 @@
--- `report_catalogue::listing` meets its contract. The loop's invariant: the lines of the entries passed are added, and their blocks are taken off.
+-- `report_catalogue::listing` meets its contract. The loop's invariant: the lines of the entries passed are added, their blocks taken off.
 use mathlib.Core.Path.{_≡_}
 use Prim.Native.Nat.{_+_, _*_, _-_, _≤_}
 use native.Mathlib.Omega.{arith}
+use Rattle.store_blocks.specs.Blocks.{mostBlocks}
 use Rattle.store_directory.specs.StoreLaws.{directory-few}
 use Rattle.report_text.specs.Texts.{added}
 use Rattle.report_text.specs.TextLaws.{added-long, none-long}
@@ -14,7 +15,8 @@ use Rattle.report_catalogue.proofs.listing.Tie as tie
 
 abbrev Inv-loop : tie.InvT-loop
 Inv-loop s n d t₀ free₀ i₀ t13 t free i =
-    (t ≡ added t₀ (entriesTo s d i)) × (free + usedTo d i ≡ n) × (t .len ≤ 10 + longestLine * i) × (i ≤ d .count) × (d .count ≤ 32) × (n ≤ 32)
+    (t ≡ added t₀ (entriesTo s d i)) × (free + usedTo d i ≡ n) × (t .len ≤ 10 + longestLine * i)
+    × (i ≤ d .count) × (d .count ≤ mostBlocks) × (n ≤ mostBlocks)
 
 abbrev μ-loop : tie.MeasureT-loop
 μ-loop s n d t₀ free₀ i₀ t13 t free i = d .count - i

@@ -18,7 +18,11 @@ abbrev μ-loop : tie.MeasureT-loop
 loop-again : tie.Need-loop-again Inv-loop μ-loop
 loop-again c =
     let l = c .before .before .before .loop .inv in
-    (rw (hex-more _ _ _ (c .before .hex-digit .ensures)) (added-more _ _ _ _ _ (l .0) (c .byte .ensures)), omega (arith, added-long _ _ _ (c .byte .ensures)), omega arith)
+    let b = c .byte .ensures in (
+      rw (hex-more _ _ _ (c .before .hex-digit .ensures)) (added-more _ _ _ _ _ (l .0) b),
+      omega (arith, added-long _ _ _ b),
+      omega arith,
+    )
 
 pub hex8-spec : {M : Type 1} → statement M
 unfolding hexTo hex8

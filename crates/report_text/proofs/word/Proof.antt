@@ -1,6 +1,5 @@
 -- `report_text::word` meets its contract. The loop's invariant: the bytes passed are added.
 use mathlib.Core.Path.{_≡_}
-use mathlib.Core.List.{[], _∷_}
 use Prim.Native.Nat.{_+_, _≤_, _-_}
 use lib.ListN.{length, take}
 use lib.Seq.{take-all}
@@ -17,6 +16,15 @@ Inv-loop s r₀ i₀ r i = (r ≡ added r₀ (take i s)) × (r .len ≡ r₀ .le
 abbrev μ-loop : tie.MeasureT-loop
 μ-loop s r₀ i₀ r i = length s - i
 
+loop-again : tie.Need-loop-again Inv-loop μ-loop
+loop-again c =
+    let l = c .before .before .before .loop .inv in
+    let b = c .byte .ensures in (
+      rw (take-more _ _ (c .before .before .loop-test .taken)) (added-more _ _ _ _ _ (l .0) b),
+      omega (arith, added-long _ _ _ b),
+      omega arith,
+    )
+
 pub word-spec : {M : Type 1} → statement M
 word-spec =
     tie.close
@@ -28,7 +36,5 @@ word-spec =
     (λ c κs. omega arith)
     (λ c. omega arith)
     (λ c. omega arith)
-    (λ c.
-    let l = c .before .before .before .loop .inv in
-    (rw (take-more _ _ (c .before .before .loop-test .taken)) (added-more _ _ _ _ _ (l .0) (c .byte .ensures)), omega (arith, added-long _ _ _ (c .byte .ensures)), omega arith))
+    loop-again
     (λ c. rw (take-all _ _ (c .loop-test .left)) at (c .before .loop .inv .0)))
