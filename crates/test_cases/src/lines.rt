@@ -56,6 +56,16 @@ pub fn platforms(label: &[u8], s: &[u8]) {
     test_output::text(b"\n");
 }
 
+// Both versions and the checksum, as a view gives them.
+pub fn view(label: &[u8], s: &[u8]) {
+    test_output::text(label);
+    let v = update_view::summary(s);
+    test_output::number(b": header version ", v.header_version);
+    test_output::number(b", loader version ", v.loader_version);
+    test_output::dword(b", checksum ", v.checksum);
+    test_output::text(b"\n");
+}
+
 fn wide(x: u8) -> u32 {
     x as u32
 }

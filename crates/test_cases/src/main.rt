@@ -5,11 +5,13 @@ mod lines;
 mod shares;
 mod stores;
 mod verdicts;
+mod views;
 
 fn main() {
     verdicts::run();
     covers::run();
     shares::run();
     flags::run();
+    views::run();
     stores::run();
 }
