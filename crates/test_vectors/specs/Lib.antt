@@ -1,4 +1,10 @@
--- What the contracts and proofs of the program cite.
-pub mod Within
+-- What the program computes between what it reads and what it writes.
+pub mod RunState
+pub mod RunStateLaws
 pub mod Digest
-pub mod Decimal
+pub mod DigestLaws
+pub mod Operands
+pub mod OperandLaws
+pub mod Edits
+pub mod EditLaws
+pub mod CallLine

@@ -1,21 +1,23 @@
 // A digest of bytes: 1, then for each byte 31 times what was, plus the byte, modulo 2^32 - 5.
 ghost use mathlib.Core.Path.{_≡_};
 ghost use Prim.Native.Nat.{_<_};
-ghost use Rattle.test_vectors.specs.Digest.{digestStep, digest};
+ghost use Rattle.test_vectors.specs.Digest.{modulus, digestStep, digest};
+
+const MODULUS: u64 = 4294967291;
 
 fn step(h: u64, b: u8) -> u64
-    requires { ⌜ h < 4294967291 ⌝ }
-    ensures { λ r. ⌜ (r ≡ digestStep h b) × (r < 4294967291) ⌝ }
+    requires { ⌜ h < modulus ⌝ }
+    ensures { λ r. ⌜ (r ≡ digestStep h b) × (r < modulus) ⌝ }
 {
-    (h * 31 + b as u64) % 4294967291
+    (h * 31 + b as u64) % MODULUS
 }
 
 // Four steps with one division.
 fn four(h: u64, a: u8, b: u8, c: u8, d: u8) -> u64
-    requires { ⌜ h < 4294967291 ⌝ }
-    ensures { λ r. ⌜ (r ≡ digestStep (digestStep (digestStep (digestStep h a) b) c) d) × (r < 4294967291) ⌝ }
+    requires { ⌜ h < modulus ⌝ }
+    ensures { λ r. ⌜ (r ≡ digestStep (digestStep (digestStep (digestStep h a) b) c) d) × (r < modulus) ⌝ }
 {
-    (h * 923521 + (a as u64) * 29791 + (b as u64) * 961 + (c as u64) * 31 + d as u64) % 4294967291
+    (h * 923521 + (a as u64) * 29791 + (b as u64) * 961 + (c as u64) * 31 + d as u64) % MODULUS
 }
 
 pub fn digest(s: &[u8]) -> u32

@@ -1,5 +1,6 @@
 // The step that sets the length of a buffer.
-ghost use Rattle.test_vectors.specs.Within.{Within};
+ghost use mathlib.Core.Path.{_≡_};
+ghost use Rattle.test_vectors.specs.RunState.{withLength, Within};
 use crate::buffers::CANDIDATE;
 use crate::buffers::DESTINATION;
 use crate::buffers::STORE;
@@ -9,24 +10,37 @@ use crate::state::State;
 
 // The state with another length of buffer 0, 1 or 2.
 fn with_length(s: State, buffer: u8, length: u32) -> State
-    requires { ⌜ Within s ⌝ }
-    ensures { λ r. ⌜ Within r ⌝ }
+    ensures { λ r. ⌜ r ≡ withLength s buffer length ⌝ }
 {
-    let mut r = s;
     let n = length as usize;
-    if buffer == 0 && n <= STORE {
-        r.store = n;
-        return r;
+    let mut r = s;
+    match buffer {
+        0 => {
+            if n <= STORE {
+                r.store = n;
+                r
+            } else {
+                state::judged(s, false)
+            }
+        }
+        1 => {
+            if n <= CANDIDATE {
+                r.candidate = n;
+                r
+            } else {
+                state::judged(s, false)
+            }
+        }
+        2 => {
+            if n <= DESTINATION {
+                r.destination = n;
+                r
+            } else {
+                state::judged(s, false)
+            }
+        }
+        _ => state::judged(s, false),
     }
-    if buffer == 1 && n <= CANDIDATE {
-        r.candidate = n;
-        return r;
-    }
-    if buffer == 2 && n <= DESTINATION {
-        r.destination = n;
-        return r;
-    }
-    state::judged(s, false)
 }
 
 pub fn length(s: State) -> State

