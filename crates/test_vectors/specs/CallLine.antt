@@ -1,6 +1,7 @@
 -- What a step with a call writes and leaves, by the definitions that the calls are proved to meet.
 --   Buffers, buffers    what a call is lent: a store, a list of processors, a candidate and a destination
 --   parts               the first bytes and processors of each, as many as the steps have set
+--   given               what a call is given
 --   replyTo             the answer and the loading state
 --   storeAfter          the store afterwards
 --   destinationAfter    the destination afterwards
@@ -8,9 +9,9 @@
 --   loadLine            the line of a load choice, which changes no byte
 use Prim.Native.Nat.{ℕ}
 use mathlib.Core.List.{List}
-use lib.ListN.{length, take}
+use lib.ListN.{take}
 use Rattle.call_answers.specs.declared.answer.Reply.{Reply}
-use Rattle.call_dispatch.specs.Call.{callReply, callStore, callDestination}
+use Rattle.call_dispatch.specs.Call.{CallInputs, inputsOf, callReply, callStore, callDestination}
 use Rattle.load_choice.specs.Load.{loadChoice}
 use Rattle.board_call_words.specs.Words.{axOf, callWords}
 use Rattle.board_load_words.specs.LoadWords.{loadAx, loadWords}
@@ -36,23 +37,27 @@ parts s b =
     buffers (take (s .store) (b .store)) (take (s .signatures) (b .signatures)) (take (s .platforms) (b .platforms))
     (take (s .candidate) (b .candidate)) (take (s .destination) (b .destination))
 
+-- what the call is given
+abbrev pub given : CallOperands → Buffers → CallInputs
+given c b =
+    inputsOf (c .function) (c .«sub_function») (c .task) (c .block) (c .loading) (b .store) (b .signatures) (b .platforms)
+    (b .candidate) (c .«read_back») (b .destination)
+
 unfoldable pub replyTo : CallOperands → Buffers → Reply
-replyTo c b =
-    callReply (c .function) (c .«sub_function») (c .task) (c .block) (c .loading) (b .store) (b .signatures) (b .platforms)
-    (b .candidate) (c .«read_back») (length (b .destination))
+replyTo c b = callReply (given c b)
 
 unfoldable pub storeAfter : CallOperands → Buffers → List ℕ
-storeAfter c b = callStore (c .function) (c .«sub_function») (b .store) (b .signatures) (b .platforms) (b .candidate) (c .«read_back»)
+storeAfter c b = callStore (given c b)
 
-unfoldable pub destinationAfter : CallOperands → List ℕ → List ℕ → List ℕ
-destinationAfter c store destination = callDestination (c .function) (c .«sub_function») (c .block) store destination
+unfoldable pub destinationAfter : CallOperands → Buffers → List ℕ
+destinationAfter c b = callDestination (given c b)
 
 unfoldable pub callLine : CallOperands → Buffers → Line
 callLine c b = record {
   result = axOf (replyTo c b .answer);
   answer = callWords (replyTo c b);
   store = digest (storeAfter c b);
-  destination = digest (destinationAfter c (b .store) (b .destination));
+  destination = digest (destinationAfter c b);
 }
 
 unfoldable pub loadLine : LoadOperands → List ℕ → List ℕ → Line

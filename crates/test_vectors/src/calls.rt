@@ -77,7 +77,9 @@ fn call_line(
     ensures stores { λ _. ⌜ now (store .exit) ≡ storeAfter c
         (buffers (now (store .entry)) (now (signatures .entry)) (now (platforms .entry))
         (now (candidate .entry)) (now (destination .entry))) ⌝ }
-    ensures copies { λ _. ⌜ now (destination .exit) ≡ destinationAfter c (now (store .entry)) (now (destination .entry)) ⌝ }
+    ensures copies { λ _. ⌜ now (destination .exit) ≡ destinationAfter c
+        (buffers (now (store .entry)) (now (signatures .entry)) (now (platforms .entry))
+        (now (candidate .entry)) (now (destination .entry))) ⌝ }
 {
     let mut answer = [0xA5A5A5A5u32; 16];
     let result = board::update_store_call(
@@ -135,8 +137,9 @@ fn call_with(
         (buffers (now (store .entry)) (now (signatures .entry)) (now (platforms .entry))
         (now (candidate .entry)) (now (destination .entry))))
         ++ drop (s .store) (now (store .entry)) ⌝ }
-    ensures copies { λ _. ⌜ now (destination .exit)
-        ≡ destinationAfter c (take (s .store) (now (store .entry))) (take (s .destination) (now (destination .entry)))
+    ensures copies { λ _. ⌜ now (destination .exit) ≡ destinationAfter c (parts s
+        (buffers (now (store .entry)) (now (signatures .entry)) (now (platforms .entry))
+        (now (candidate .entry)) (now (destination .entry))))
         ++ drop (s .destination) (now (destination .entry)) ⌝ }
 {
     let i = s.store;
