@@ -17,3 +17,4 @@ pub mod Outdated
 pub mod OutdatedLaws
 pub mod RunFree
 pub mod RunFreeLaws
+pub mod Behind
