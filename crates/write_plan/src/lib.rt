@@ -60,7 +60,7 @@ pub fn plan_marked<'a>(
     requires { ⌜ Shared (now store) (now candidate) (now starts) (now shares) count × (length (now store) / 2048 ≤ 32) ⌝ }
     ensures { λ r. ⌜ r ≡ markedPlan (now (store .entry)) (now (candidate .entry)) (storedOf (marksOf (now (starts .entry)) (now (sizes .entry)) (now (shares .entry)) (now (needed .entry)) count)) k ⌝ }
 {
-    if marks::outdated(store, starts, shares, count, candidate) {
+    if marks::outdated(store, starts, count, candidate) {
         return Plan::Refuse {
             ah: code::INVALID_REVISION,
             al: code::NONE,
