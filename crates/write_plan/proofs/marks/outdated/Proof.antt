@@ -36,13 +36,13 @@ scan-again c =
     let r = c .before in
     let s = r .before .before .before .before in
     let new = s .before .before .before in
-    (omega arith, s .scan .inv .1, outdate-older _ _ _ _ _ _ _ (new .before .before .before .pre .0) (r .before .from-start .ensures) (r .revision2 .ensures) (new .revision .ensures) (c .if1 .taken) (s .scan .inv .2))
+    (omega arith, s .scan .inv .1, outdate-older _ _ _ _ _ _ _ (new .before .before .before .pre .0) (r .before .from-start .ensures) (r .revision2 .ensures) (new .revision .ensures) (omega arith) (s .scan .inv .2))
 
 loop2-again : tie.Need-loop2-again Inv-loop2 μ-loop2 Inv-loop μ-loop Inv-scan μ-scan
 loop2-again c =
     let l = c .before .before .before in
     let read = l .before in
-    (omega arith, l .loop2 .inv .1, share-more _ _ _ _ _ _ _ (read .before .signature-at .ensures) (read .platforms-at .ensures) (c .before .shares-at .ensures) (l .loop2 .inv .2) (c .if2 .left))
+    (omega arith, l .loop2 .inv .1, share-more _ _ (read .before .before .before .loop .j) _ _ _ _ (read .before .signature-at .ensures) (read .platforms-at .ensures) (c .before .shares-at .ensures) (l .loop2 .inv .2) (c .if2 .left))
 
 loop-again : tie.Need-loop-again Inv-loop2 μ-loop2 Inv-loop μ-loop Inv-scan μ-scan
 loop-again c =
@@ -72,8 +72,8 @@ returns-2 c =
     let s = r .before .before .before .before in
     let new = s .before .before .before in
     let pre = new .before .before .before .pre in
-    outdate-stop _ _ _ _ _ _ _ (pre .0) (r .before .from-start .ensures) (r .revision2 .ensures) (new .revision .ensures) _ (pre .1) (r .before .before .before .scan-test .taken) (e .if1 .left)
-    (share-stop _ _ _ _ _ _ _ (read .before .signature-at .ensures) (read .platforms-at .ensures) (c .before .shares-at .ensures) _ _ _ _ (n .pair-count2 .ensures) (s .before .pair-count .ensures) (read .before .before .loop-test .taken) (c .before .before .loop2-test .taken) (c .if2 .taken))
+    outdate-stop _ _ _ _ _ _ _ (pre .0) (r .before .from-start .ensures) (r .revision2 .ensures) (new .revision .ensures) _ (pre .1) (r .before .before .before .scan-test .taken) (omega arith)
+    (share-stop _ _ (read .before .before .before .loop .j) _ _ _ _ (read .before .signature-at .ensures) (read .platforms-at .ensures) (c .before .shares-at .ensures) _ _ _ _ (n .pair-count2 .ensures) (s .before .pair-count .ensures) (read .before .before .loop-test .taken) (c .before .before .loop2-test .taken) (c .if2 .taken))
 
 pub outdated-spec : {M : Type 1} → statement M
 outdated-spec =
