@@ -20,7 +20,7 @@ fn pair_shares(x: u32, f: u8, y: u32, g: u8) -> bool
 }
 
 // Does pair `j` of `b` share a processor with a pair of signature `x` and flags `f`?
-fn shares_at(x: u32, f: u8, b: &[u8], e: u32, j: u32) -> bool
+pub fn shares_at(x: u32, f: u8, b: &[u8], e: u32, j: u32) -> bool
     requires { ⌜ (e ≡ dataSize (now b)) × (j < pairCount (now b)) ⌝ }
     ensures { λ r. ⌜ r ≡ pairShares x f (signatureAt (now (b .entry)) j) (platformsAt (now (b .entry)) j) ⌝ }
 {

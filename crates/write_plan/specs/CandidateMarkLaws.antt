@@ -1,19 +1,22 @@
 -- The marks as the code keeps them, and how they stand for those of the definitions.
 --   shares-is, needed-is       a turn of the loop that marks; marks-made: its end
---   outdates-yes, outdating   the test of one update; the scan for one that isn't older, as `search` takes it
+--   outdate-older, outdate-apart    a turn of the scan for one that shares and isn't older: past an older one, past one that doesn't share
+--   outdate-stop, outdate-done      its way out, and its end
 --   stored-same                 right marks agree with the definitions' table
 use Prim.Native.Nat.{ℕ, _+_, _<_, _≤_}
 use mathlib.Core.Path.{_≡_, sym, _∙_}
-use mathlib.Core.Bool.{Bool, true, false, _&&_}
+use mathlib.Core.Bool.{Bool, true, false, _&&_, and-false}
 use mathlib.Core.List.{List}
 use lib.ListN.{length, getD}
 use lib.Dec.{leb}
+use borrow.Author.Tests.{le-leb, lt-leb}
 use Rattle.processor_list.specs.Processors.{ProcessorList}
-use Rattle.laws.specs.Below.{anyBelow, any-none, any-more, any-stop}
-use Rattle.laws.specs.Loops.{scan-done}
+use Rattle.laws.specs.Below.{anyBelow, rows, any-more, any-stop}
+use Rattle.laws.specs.Loops.{scan-done, scan-unset}
 use Rattle.laws.specs.Arrays.{Filled, filled-all}
 use Rattle.update_header.specs.Fields.{revision}
-use Rattle.update_sharing.specs.Shares.{shares}
+use Rattle.update_coverage.specs.Covers.{pairCount}
+use Rattle.update_sharing.specs.Shares.{sharesAt, shares}
 use Rattle.store_blocks.specs.Blocks.{fromBlock}
 use Rattle.store_directory.specs.Scan.{directory}
 use Rattle.store_directory.specs.declared.Directory.{Directory}
@@ -21,7 +24,7 @@ use Rattle.write_placement.specs.Agree.{Agree}
 use Rattle.write_marks.specs.StoredMarks.{storedOf}
 use Rattle.write_marks.specs.declared.Marked.{Marked}
 use Rattle.processor_list.specs.Covered.{Covered, neededByMarks, needed-by-is}
-use Rattle.write_plan.specs.RightMarks.{Shared, Marks}
+use Rattle.write_plan.specs.RightMarks.{Marks}
 use Rattle.write_plan.specs.CandidateMarks.{sharesEntry, neededEntry, storedUpdates, outdates, outdated}
 
 -- a turn: d is the directory, u the part at the start of entry i
@@ -45,29 +48,30 @@ marks-made old list cand d i xs ys e few a b l m =
       needed = filled-all false 32 (neededEntry old list cand) ys i (d .count) b l m;
     }
 
--- one update: v is the revision that a call read from the part u
-pub outdates-yes : (old u : List ℕ) (start new v : ℕ) (t : Bool) → t ≡ true → u ≡ fromBlock old start → v ≡ revision u → leb new v ≡ t && leb new (revision (fromBlock old start))
-outdates-yes old u start new v t h e k = rw (h, k, e)
+-- check 6: u is the part at the start of entry i, v its revision as a call read it, and new the candidate's
+module _ (old cand starts u : List ℕ) (i new v : ℕ) (e : starts ≡ directory old .starts) (part : u ≡ fromBlock old (getD starts i 0)) (w : v ≡ revision u) (g : new ≡ revision cand) where
+  outdates-is : shares u cand && leb new v ≡ outdates old cand i
+  unfolding outdates sharesEntry
+  outdates-is = rw (w, part, e, g)
 
--- the scan: r is what a call answered of mark and start of entry i
-module _ (old cand starts : List ℕ) (shares : List Bool) (count i new : ℕ) (r : Bool) (right : Shared old cand starts shares count) (e : new ≡ revision cand) (l : i < count)
-    (h : r ≡ getD shares i false && leb new (revision (fromBlock old (getD starts i 0)))) where
-  outdates-is : r ≡ outdates old cand i
-  unfolding outdates
-  outdates-is = h ∙ rw (right .marks .each i l, e, right .starts-are)
+  -- a turn past an older update
+  pub outdate-older : v < new → anyBelow i (outdates old cand) ≡ false → anyBelow (i + 1) (outdates old cand) ≡ false
+  outdate-older l k = any-more (outdates old cand) i k (sym outdates-is ∙ rw (lt-leb new v l) (and-false (shares u cand)))
 
-  pub outdate-more : anyBelow i (outdates old cand) ≡ false → r ≡ false → anyBelow (i + 1) (outdates old cand) ≡ false
-  outdate-more k o = any-more (outdates old cand) i k (sym outdates-is ∙ o)
+  -- a turn past one that doesn't share: none of its pairs does
+  pub outdate-apart : (j m : ℕ) → m ≡ pairCount u → anyBelow j (rows (pairCount cand) (sharesAt u cand)) ≡ false → j ≤ m → m ≤ j → anyBelow i (outdates old cand) ≡ false → anyBelow (i + 1) (outdates old cand) ≡ false
+  unfolding shares
+  outdate-apart j m q h a b k =
+      any-more (outdates old cand) i k (sym outdates-is ∙ rw (← scan-done (rows (pairCount cand) (sharesAt u cand)) j m (pairCount u) q a b h))
 
-  pub outdate-stop : r ≡ true → true ≡ outdated old cand
+  -- the way out: a pair of it shares
+  pub outdate-stop : (count : ℕ) → count ≡ directory old .count → i < count → new ≤ v → true ≡ shares u cand → true ≡ outdated old cand
   unfolding outdated
-  outdate-stop t = sym (any-stop (outdates old cand) (directory old .count) i (rw (right .count-is) at l) (sym outdates-is ∙ t))
+  outdate-stop count q l a h = sym (any-stop (outdates old cand) (directory old .count) i (rw q at l) (sym outdates-is ∙ rw (← h, le-leb new v a)))
 
-pub outdate-done : (old cand starts : List ℕ) (shares : List Bool) (count i : ℕ) → Shared old cand starts shares count → anyBelow i (outdates old cand) ≡ false → i ≤ count → count ≤ i → false ≡ outdated old cand
+pub outdate-done : (old cand : List ℕ) (count i : ℕ) (found : Bool) → count ≡ directory old .count → found ≡ false → anyBelow i (outdates old cand) ≡ false → i ≤ count → count ≤ i → found ≡ outdated old cand
 unfolding outdated
-outdate-done old cand starts shares count i right h p q = scan-done (outdates old cand) i count (directory old .count) (right .count-is) p q h
-
-pub ruleset outdating = (any-none, outdate-more, outdate-stop, outdate-done)
+outdate-done old cand count i found q f h a b = scan-unset (outdates old cand) i found count (directory old .count) f q a b h
 
 pub stored-same : (old : List ℕ) (list : ProcessorList) (cand : List ℕ) (m : Marked) → Marks old list cand m → Agree (storedOf m) (storedUpdates old list cand)
 unfolding storedOf storedUpdates

@@ -63,7 +63,7 @@ pub fn plan_marked<'a>(
     ensures { λ r. ⌜ r ≡ markedPlan (now (store .entry)) (now (candidate .entry)) (storedOf (marksOf (now (starts .entry))
         (now (sizes .entry)) (now (shares .entry)) (now (needed .entry)) count)) k ⌝ }
 {
-    if marks::outdated(store, starts, shares, count, candidate) {
+    if marks::outdated(store, starts, count, candidate) {
         return Plan::Refuse {
             ah: code::INVALID_REVISION,
             al: code::NONE,

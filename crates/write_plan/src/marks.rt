@@ -1,16 +1,12 @@
 // The marks of the stored updates against a candidate, and whether one of them is as new.
 ghost use mathlib.Core.Path.{_≡_};
 ghost use Rattle.processor_list.specs.Processors.{listOf};
-ghost use mathlib.Core.Bool.{false, _&&_};
 ghost use Prim.Native.Nat.{_≤_};
 ghost use lib.ListN.{length};
-ghost use lib.Dec.{leb};
-ghost use Rattle.update_header.specs.Fields.{revision};
-ghost use Rattle.store_blocks.specs.Blocks.{fromBlock};
 ghost use Rattle.store_directory.specs.Scan.{directory};
 ghost use Rattle.processor_list.specs.Covered.{Covered};
 ghost use Rattle.write_plan.specs.CandidateMarks.{outdated};
-ghost use Rattle.write_plan.specs.RightMarks.{Shared, Marks};
+ghost use Rattle.write_plan.specs.RightMarks.{Marks};
 use store_blocks::MOST_BLOCKS;
 use store_directory::Directory;
 use update_header::fields;
@@ -55,35 +51,40 @@ pub fn mark(
     }
 }
 
-// Does the update at block `start` share, and is its revision at least `new`?
-fn outdates(store: &[u8], shares: bool, start: u8, new: u32) -> bool
-    ensures { λ r. ⌜ r ≡ shares && leb new (revision (fromBlock (now (store .entry)) start)) ⌝ }
-{
-    if shares {
-        new <= fields::revision(store_blocks::from_start(store, start))
-    } else {
-        false
-    }
-}
-
-// Does some stored update share, with a revision that is equal or greater?
-pub fn outdated<'a>(
-    store: &[u8],
-    starts: &'a [u8; MOST_BLOCKS],
-    shares: &'a [bool; MOST_BLOCKS],
-    count: usize,
-    candidate: &[u8],
-) -> bool
-    requires { ⌜ Shared (now store) (now candidate) (now starts) (now shares) count ⌝ }
+// Check 6: does some stored update share a processor with the candidate, with a revision that is equal or greater? The scan of its pairs and
+// the candidate's leaves at the first two that share; an older update isn't compared.
+pub fn outdated(store: &[u8], starts: &[u8; MOST_BLOCKS], count: usize, candidate: &[u8]) -> bool
+    requires { ⌜ (now starts ≡ directory (now store) .starts) × (count ≡ directory (now store) .count) × (count ≤ 32) ⌝ }
     ensures { λ r. ⌜ r ≡ outdated (now (store .entry)) (now (candidate .entry)) ⌝ }
 {
     let new = fields::revision(candidate);
+    let data = fields::data_size(candidate);
+    let pairs = update_coverage::pair_count(candidate);
+    let mut found = false;
     let mut i: usize = 0;
-    while i < count {
-        if outdates(store, shares[i], starts[i], new) {
-            return true;
+    'scan: while i < count {
+        let u = store_blocks::from_start(store, starts[i]);
+        if fields::revision(u) < new {
+            i += 1;
+        } else {
+            let d = fields::data_size(u);
+            let m = update_coverage::pair_count(u);
+            let mut j: u32 = 0;
+            while j < m {
+                let x = update_coverage::signature_at(u, d, j);
+                let f = update_coverage::platforms_at(u, d, j);
+                let mut k: u32 = 0;
+                while k < pairs {
+                    if update_sharing::shares_at(x, f, candidate, data, k) {
+                        found = true;
+                        break 'scan;
+                    }
+                    k += 1;
+                }
+                j += 1;
+            }
+            i += 1;
         }
-        i += 1;
     }
-    false
+    found
 }

@@ -21,7 +21,7 @@ pub plan-marked-spec : {M : Type 1} → statement M
 plan-marked-spec =
     tie.close
     (tie.spec
-    (λ c κs. c .before .before .pre .0)
+    (λ c κs. let p = c .before .before .pre .0 in (p .starts-are, p .count-is, p .few))
     returns
     (λ c κs. omega arith)
     returns-2
