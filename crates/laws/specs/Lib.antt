@@ -5,7 +5,7 @@ pub mod Span
 pub mod Below
 pub mod Loops
 pub mod Count
-pub mod Listed
+pub mod NumbersBelow
 pub mod First
 pub mod Least
 pub mod Arrays

@@ -1,5 +1,5 @@
 -- The processor list's rule.
---   listed                 a return at each test, as `search` takes it
+--   list-tests             a return at each test, as `search` takes it
 --   GoodList, good-list    what a right list says, from what a call answered
 --   list-few, list-same, list-right    parts of it
 --   listed-platform        a platform of a right list is at most 7
@@ -52,7 +52,7 @@ module _ (list : ProcessorList) where
               rw q at h,
             )
 
-pub ruleset listed = (list-unequal, list-none, list-many, list-platform, list-good)
+pub ruleset list-tests = (list-unequal, list-none, list-many, list-platform, list-good)
 
 -- what a right list says
 pub record GoodList (list : ProcessorList) : Type 0 where

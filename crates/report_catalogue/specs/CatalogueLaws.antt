@@ -5,7 +5,7 @@
 --   walk-more                what an entry adds to the lines
 --   text-good, text-bad      the text, from what the calls gave
 --   text-short               it has no more bytes than the text that was made
---   input-listed             one byte more than the largest store has is enough of any input
+--   input-text             one byte more than the largest store has is enough of any input
 use Prim.Native.Nat.{ℕ, _+_, _/_, _<_, _≤_}
 use mathlib.Core.Path.{_≡_, refl}
 use mathlib.Core.Bool.{true, false}
@@ -75,9 +75,9 @@ long-bad : (s : List ℕ) → length s ≡ inputRoom → catalogueText s ≡ bad
 unfolding catalogueText unless storeOk lengthOk
 long-bad s e = rw e
 
-pub input-listed : (all : List ℕ) → catalogueText (take inputRoom all) ≡ inputText all
+pub input-text : (all : List ℕ) → catalogueText (take inputRoom all) ≡ inputText all
 unfolding inputText unless
-input-listed all =
+input-text all =
     ⊎-elim (λ (h : length all ≤ largestStore). rw (take-all inputRoom all (omega arith), le-leb (length all) largestStore h))
     (λ (h : largestStore < length all).
     rw (lt-leb (length all) largestStore h) (long-bad (take inputRoom all) (length-take-le inputRoom all (omega arith))))

@@ -1,10 +1,10 @@
 -- Laws of the blocks that the reading passes, and of the list of first blocks.
 --   later-blocks       the blocks behind the first of a slot begin none
 --   next-begins        the block behind a slot begins one
---   listed-first       each first block is listed
---   first-listed       each listed block is a first block below n
---   starts-increase    they are listed in order
---   sizes-long, sizes-listed    beside each stands its size
+--   entry-first       each first block is numbers-below
+--   first-entry       each numbers-below block is a first block below n
+--   starts-increase    they are numbers-below in order
+--   sizes-long, entry-sizes    beside each stands its size
 --   few-starts         there are no more than blocks
 use Prim.Native.Nat.{ℕ, zero, suc, _+_, _<_, _≤_}
 use mathlib.Core.Path.{_≡_, sym}
@@ -14,7 +14,7 @@ use native.Mathlib.Nat.{not-suc-le-zero, add-zero, add-suc}
 use native.Mathlib.Omega.{arith}
 use lib.ListN.{length, getD}
 use borrow.Author.Tests.{le-leb, lt-leb}
-use Rattle.laws.specs.Listed.{Listed, listed}
+use Rattle.laws.specs.NumbersBelow.{NumbersBelow, numbers-below}
 use Rattle.store_directory.specs.Scan.{sizeAt, nextSlot, begins, first, startsTo, sizesTo}
 
 module _ (s : List ℕ) where
@@ -35,14 +35,14 @@ module _ (s : List ℕ) where
   next-begins b (suc k) h e p = rw (add-suc b k, run b (suc k) h e k (omega arith)) (le-leb (b + suc k) (suc (b + k)) (omega arith))
 
   -- the directory has each first block, and nothing else, in order, with its size
-  starts : (n : ℕ) → Listed (first s) (sizeAt s) n (startsTo s n) (sizesTo s n)
-  starts n = listed (first s) (sizeAt s) n
+  starts : (n : ℕ) → NumbersBelow (first s) (sizeAt s) n (startsTo s n) (sizesTo s n)
+  starts n = numbers-below (first s) (sizeAt s) n
 
-  pub listed-first : (n b : ℕ) → b < n → first s b ≡ true → (i : ℕ) × (i < length (startsTo s n)) × (getD (startsTo s n) i 0 ≡ b)
-  listed-first n b l h = starts n .whole b l h
+  pub entry-first : (n b : ℕ) → b < n → first s b ≡ true → (i : ℕ) × (i < length (startsTo s n)) × (getD (startsTo s n) i 0 ≡ b)
+  entry-first n b l h = starts n .whole b l h
 
-  pub first-listed : (n i : ℕ) → i < length (startsTo s n) → (first s (getD (startsTo s n) i 0) ≡ true) × (getD (startsTo s n) i 0 < n)
-  first-listed n i l = (starts n .passes i l, starts n .below i l)
+  pub first-entry : (n i : ℕ) → i < length (startsTo s n) → (first s (getD (startsTo s n) i 0) ≡ true) × (getD (startsTo s n) i 0 < n)
+  first-entry n i l = (starts n .passes i l, starts n .below i l)
 
   pub starts-increase : (n i j : ℕ) → j < i → i < length (startsTo s n) → getD (startsTo s n) j 0 < getD (startsTo s n) i 0
   starts-increase n i j l m = starts n .rises i j l m
@@ -50,8 +50,8 @@ module _ (s : List ℕ) where
   pub sizes-long : (n : ℕ) → length (sizesTo s n) ≡ length (startsTo s n)
   sizes-long n = starts n .long
 
-  pub sizes-listed : (n i : ℕ) → i < length (startsTo s n) → sizeAt s (getD (startsTo s n) i 0) ≡ getD (sizesTo s n) i 0
-  sizes-listed n i l = sym (starts n .values i l)
+  pub entry-sizes : (n i : ℕ) → i < length (startsTo s n) → sizeAt s (getD (startsTo s n) i 0) ≡ getD (sizesTo s n) i 0
+  entry-sizes n i l = sym (starts n .values i l)
 
   -- there are no more than blocks
   pub few-starts : (b : ℕ) → length (startsTo s b) ≤ b

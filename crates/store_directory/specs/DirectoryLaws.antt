@@ -17,12 +17,12 @@ use Rattle.laws.specs.Below.{all-at}
 use Rattle.laws.specs.Span.{spans-law}
 use Rattle.laws.specs.First.{firstBelow, First, first-is}
 use Rattle.store_blocks.specs.Blocks.{blockCount}
-use Rattle.store_directory.specs.Scan.{slotAt, sizeAt, isBad, begins, first, sound, startsTo, sizesTo, pad, listed, storeOk, directory}
+use Rattle.store_directory.specs.Scan.{slotAt, sizeAt, isBad, begins, first, sound, startsTo, sizesTo, pad, directoryTo, storeOk, directory}
 use Rattle.store_directory.specs.Kind.{kindOf, kindAt, ownsAt, kindIf, kindBy, kindIn}
 use Rattle.store_directory.specs.Valid.{Valid, Owned}
 use Rattle.store_directory.specs.SlotLaws.{ends-inside}
-use Rattle.store_directory.specs.BlockLaws.{listed-first, first-listed, starts-increase, sizes-listed, sizes-long, later-blocks}
-use Rattle.store_directory.specs.StoreLaws.{pad-at, directory-listed, directory-few}
+use Rattle.store_directory.specs.BlockLaws.{entry-first, first-entry, starts-increase, entry-sizes, sizes-long, later-blocks}
+use Rattle.store_directory.specs.StoreLaws.{pad-at, directory-entries, directory-few}
 use Rattle.store_directory.specs.LayoutLaws.{size-some, first-parts, home, layout-sound}
 use Rattle.store_directory.specs.ValidLaws.{store-valid}
 use Rattle.store_blocks.specs.declared.slot.Slot.{Slot}
@@ -44,27 +44,27 @@ module _ (s : List ℕ) (ok : storeOk s ≡ true) where
   valid : Valid s (blockCount s) (first s)
   valid = store-valid s ok
 
-  starts-listing : Listing s (listed s (blockCount s))
-  unfolding listed
+  starts-listing : Listing s (directoryTo s (blockCount s))
+  unfolding directoryTo
   starts-listing =
       let n = blockCount s in
       let l = directory-few s (directory s) refl in
       let start : (i : ℕ) → i < length (startsTo s n) → getD (pad (startsTo s n)) i 0 ≡ getD (startsTo s n) i 0 = pad-at (startsTo s n) in
       let size : (i : ℕ) → i < length (startsTo s n) → getD (pad (sizesTo s n)) i 0 ≡ getD (sizesTo s n) i 0 = λ i l. pad-at (sizesTo s n) i (omega (arith, sizes-long s n)) in
-      let sized : (i : ℕ) → i < length (startsTo s n) → getD (pad (sizesTo s n)) i 0 ≡ sizeAt s (getD (pad (startsTo s n)) i 0) = λ i l. rw (size i l, start i l) (sym (sizes-listed s n i l)) in
-      let begin : (i : ℕ) → i < length (startsTo s n) → (first s (getD (pad (startsTo s n)) i 0) ≡ true) × (getD (pad (startsTo s n)) i 0 < n) = λ i l. rw (start i l) (first-listed s n i l) in
+      let sized : (i : ℕ) → i < length (startsTo s n) → getD (pad (sizesTo s n)) i 0 ≡ sizeAt s (getD (pad (startsTo s n)) i 0) = λ i l. rw (size i l, start i l) (sym (entry-sizes s n i l)) in
+      let begin : (i : ℕ) → i < length (startsTo s n) → (first s (getD (pad (startsTo s n)) i 0) ≡ true) × (getD (pad (startsTo s n)) i 0 < n) = λ i l. rw (start i l) (first-entry s n i l) in
       record {
-        few = rw (directory-listed s (directory s) refl ok) at l;
+        few = rw (directory-entries s (directory s) refl ok) at l;
         begin = λ i l. begin i l .0;
         sized = sized;
         some = λ i l. rw (sized i l) (size-some s (getD (pad (startsTo s n)) i 0));
         ends = λ i l. let k = first-parts s (getD (pad (startsTo s n)) i 0) (begin i l .0) .1 in rw (sized i l) (rw (k .1) (ends-inside s n (getD (pad (startsTo s n)) i 0) (k .0) (valid .long) (k .1)));
         order = λ i j l m. rw (sized j (omega arith)) (valid .layout .order (getD (pad (startsTo s n)) j 0) (getD (pad (startsTo s n)) i 0) (rw (start i m, start j (omega arith)) (starts-increase s n i j l m)) (begin i m .1) (begin j (omega arith) .0) (begin i m .0));
-        every = λ b l h. let w = listed-first s n b l h in (w .0, w .1, start (w .0) (w .1) ∙ w .2);
+        every = λ b l h. let w = entry-first s n b l h in (w .0, w .1, start (w .0) (w .1) ∙ w .2);
       }
 
   pub listing : (d : Directory) → d ≡ directory s → Listing s d
-  listing d e = rw (directory-listed s d e ok) starts-listing
+  listing d e = rw (directory-entries s d e ok) starts-listing
 
   -- a block that belongs to a stored update, and one that doesn't
   module _ (d : Directory) (e : d ≡ directory s) (b : ℕ) (l : b < blockCount s) where

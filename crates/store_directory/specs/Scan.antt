@@ -7,7 +7,7 @@
 --   sound                   what is read at b may stand there
 --   startsTo, sizesTo       the first blocks and the sizes of the updates among the blocks below b, in order
 --   pad                     a list as an array of 32
---   badStore, listed        the directory of a bad store; what n blocks list
+--   badStore, directoryTo   the directory of a bad store; that of the first n blocks
 --   scanned                 what the reading lists, or bad; before the test for a common processor
 --   clashAt .. clash        two of the updates cover a common processor: numbers i and j, i and one before it, some two
 --   apart                   no two do
@@ -18,7 +18,7 @@ use mathlib.Core.List.{List, _++_}
 use lib.ListN.{length, getD, replicate}
 use lib.Dec.{leb}
 use Rattle.laws.specs.Below.{allBelow, anyBelow}
-use Rattle.laws.specs.Listed.{itself, listBelow}
+use Rattle.laws.specs.NumbersBelow.{itself, listBelow}
 use Rattle.update_sharing.specs.Shares.{shares}
 use Rattle.store_blocks.specs.Blocks.{fromBlock, blockCount, lengthOk}
 use Rattle.store_blocks.specs.Slot.{slotOf}
@@ -82,11 +82,11 @@ unfoldable pub badStore : Directory
 badStore = record { ok = false; count = 0; starts = replicate 32 0; sizes = replicate 32 0 }
 
 -- what n blocks hold
-unfoldable pub listed : List ℕ → ℕ → Directory
-listed s n = record { ok = true; count = length (startsTo s n); starts = pad (startsTo s n); sizes = pad (sizesTo s n) }
+unfoldable pub directoryTo : List ℕ → ℕ → Directory
+directoryTo s n = record { ok = true; count = length (startsTo s n); starts = pad (startsTo s n); sizes = pad (sizesTo s n) }
 
 unfoldable pub scanned : List ℕ → ℕ → Directory
-scanned s n = cond (allBelow n (sound s)) (listed s n) badStore
+scanned s n = cond (allBelow n (sound s)) (directoryTo s n) badStore
 
 -- the updates that begin at blocks number i and j of xs cover a common processor
 unfoldable pub clashAt : List ℕ → List ℕ → ℕ → ℕ → Bool
@@ -107,4 +107,4 @@ unfoldable pub storeOk : List ℕ → Bool
 storeOk s = lengthOk (length s) && allBelow (blockCount s) (sound s) && apart s (startsTo s (blockCount s))
 
 unfoldable pub directory : List ℕ → Directory
-directory s = cond (storeOk s) (listed s (blockCount s)) badStore
+directory s = cond (storeOk s) (directoryTo s (blockCount s)) badStore

@@ -15,7 +15,7 @@ use lib.Seq.{append-snoc, set-append-seam}
 use lib.Dec.{leb}
 use borrow.Author.Tests.{le-leb, lt-leb}
 use Rattle.laws.specs.Below.{allBelow, all-none, all-more}
-use Rattle.laws.specs.Listed.{listBelow}
+use Rattle.laws.specs.NumbersBelow.{listBelow}
 use Rattle.store_blocks.specs.Blocks.{fromBlock}
 use Rattle.store_blocks.specs.Slot.{slotOf}
 use Rattle.store_directory.specs.Scan.{slotAt, nextSlot, begins, first, sound, startsTo, sizesTo, pad}

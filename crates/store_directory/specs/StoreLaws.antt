@@ -4,7 +4,7 @@
 --   store-bad .. store-length    the four ways to the directory
 --   store-parts      the three tests of a store
 --   directory-ok, directory-good    the directory says whether the store is valid
---   directory-listed    of a valid store it is what its blocks list
+--   directory-entries    of a valid store it is what its blocks list
 --   directory-few    it lists at most 32 updates
 use Prim.Native.Nat.{ℕ, _-_, _/_, _<_, _≤_}
 use mathlib.Core.Path.{_≡_, refl, sym, ap, _∙_}
@@ -16,7 +16,7 @@ use Rattle.laws.specs.Bools.{and-parts}
 use Rattle.laws.specs.Below.{allBelow, any-cong}
 use Rattle.store_blocks.specs.Blocks.{blockCount, lengthOk}
 use Rattle.store_blocks.specs.LengthLaws.{length-parts}
-use Rattle.store_directory.specs.Scan.{sound, startsTo, pad, badStore, listed, scanned, clashAt, clashRow, clash, apart, storeOk, directory}
+use Rattle.store_directory.specs.Scan.{sound, startsTo, pad, badStore, directoryTo, scanned, clashAt, clashRow, clash, apart, storeOk, directory}
 use Rattle.store_directory.specs.BlockLaws.{few-starts}
 use Rattle.store_directory.specs.declared.Directory.{Directory}
 
@@ -34,18 +34,18 @@ clash-pad s xs =
 
 module _ (s : List ℕ) (n : ℕ) where
   scanned-ok : scanned s n .ok ≡ allBelow n (sound s)
-  unfolding scanned listed badStore
+  unfolding scanned directoryTo badStore
   scanned-ok = go (allBelow n (sound s))
     where
-      go : (t : Bool) → cond t (listed s n) badStore .ok ≡ t
+      go : (t : Bool) → cond t (directoryTo s n) badStore .ok ≡ t
       go true = refl
       go false = refl
 
   pub scanned-few : scanned s n .count ≤ n
-  unfolding scanned listed badStore
+  unfolding scanned directoryTo badStore
   scanned-few = go (allBelow n (sound s))
     where
-      go : (t : Bool) → cond t (listed s n) badStore .count ≤ n
+      go : (t : Bool) → cond t (directoryTo s n) badStore .count ≤ n
       go true = few-starts s n
       go false = omega arith
 
@@ -53,13 +53,13 @@ module _ (s : List ℕ) (d : Directory) (e : d ≡ scanned s (length s / 2048)) 
   d-sound : (t : Bool) → d .ok ≡ t → allBelow (length s / 2048) (sound s) ≡ t
   d-sound t h = sym (scanned-ok s (length s / 2048)) ∙ ap (λ (x : Directory). x .ok) (sym e) ∙ h
 
-  d-listed : d .ok ≡ true → d ≡ listed s (length s / 2048)
+  d-entries : d .ok ≡ true → d ≡ directoryTo s (length s / 2048)
   unfolding scanned
-  d-listed h = e ∙ rw (d-sound true h)
+  d-entries h = e ∙ rw (d-sound true h)
 
   d-clash : d .ok ≡ true → (t : Bool) → clash s (d .starts) (d .count) ≡ t → clash s (startsTo s (length s / 2048)) (length (startsTo s (length s / 2048))) ≡ t
-  unfolding listed
-  d-clash h t k = sym (clash-pad s (startsTo s (length s / 2048))) ∙ ap (λ (x : Directory). clash s (x .starts) (x .count)) (sym (d-listed h)) ∙ k
+  unfolding directoryTo
+  d-clash h t k = sym (clash-pad s (startsTo s (length s / 2048))) ∙ ap (λ (x : Directory). clash s (x .starts) (x .count)) (sym (d-entries h)) ∙ k
 
   pub store-bad : d .ok ≡ false → badStore ≡ directory s
   unfolding directory storeOk apart blockCount
@@ -71,7 +71,7 @@ module _ (s : List ℕ) (d : Directory) (e : d ≡ scanned s (length s / 2048)) 
 
   pub store-good : d .ok ≡ true → clash s (d .starts) (d .count) ≡ false → d ≡ directory s
   unfolding directory storeOk apart blockCount
-  store-good h k = rw (l, d-sound true h, d-clash h false k) (d-listed h)
+  store-good h k = rw (l, d-sound true h, d-clash h false k) (d-entries h)
 
 pub store-length : (s : List ℕ) → lengthOk (length s) ≡ false → badStore ≡ directory s
 unfolding directory storeOk
@@ -88,24 +88,24 @@ store-parts s h =
 -- what the directory says of itself
 module _ (s : List ℕ) (d : Directory) (e : d ≡ directory s) where
   pub directory-ok : d .ok ≡ storeOk s
-  unfolding directory listed badStore
+  unfolding directory directoryTo badStore
   directory-ok = ap (λ (x : Directory). x .ok) e ∙ go (storeOk s)
     where
-      go : (t : Bool) → cond t (listed s (blockCount s)) badStore .ok ≡ t
+      go : (t : Bool) → cond t (directoryTo s (blockCount s)) badStore .ok ≡ t
       go true = refl
       go false = refl
 
   pub directory-good : d .ok ≡ true → storeOk s ≡ true
   directory-good h = sym directory-ok ∙ h
 
-  pub directory-listed : storeOk s ≡ true → d ≡ listed s (blockCount s)
+  pub directory-entries : storeOk s ≡ true → d ≡ directoryTo s (blockCount s)
   unfolding directory
-  directory-listed h = e ∙ rw h
+  directory-entries h = e ∙ rw h
 
   pub directory-few : d .count ≤ 32
-  unfolding directory listed badStore
+  unfolding directory directoryTo badStore
   directory-few = rw e (go (storeOk s) refl)
     where
-      go : (t : Bool) → storeOk s ≡ t → cond t (listed s (blockCount s)) badStore .count ≤ 32
+      go : (t : Bool) → storeOk s ≡ t → cond t (directoryTo s (blockCount s)) badStore .count ≤ 32
       go true q = omega (arith, few-starts s (blockCount s), length-parts s (store-parts s q .0) .2)
       go false q = omega arith

@@ -24,7 +24,7 @@ use Rattle.store_directory.specs.Scan.{first, startsTo, clashAt, clashRo
 use Rattle.store_directory.specs.Valid.{Valid, ValidStore}
 use Rattle.store_directory.specs.StoreLaws.{store-parts, directory-good}
 use Rattle.store_directory.specs.declared.Directory.{Directory}
-use Rattle.store_directory.specs.BlockLaws.{listed-first, first-listed, starts-increase}
+use Rattle.store_directory.specs.BlockLaws.{entry-first, first-entry, starts-increase}
 use Rattle.store_directory.specs.LayoutLaws.{layout-first, layout-sound, scan-layout}
 
 module _ (s : List ℕ) where
@@ -33,8 +33,8 @@ module _ (s : List ℕ) where
       → shares (fromBlock s b) (fromBlock s c) ≡ false
   unfolding clash clashRow clashAt
   clash-none n b c h l q f g =
-      let x = listed-first s n b q f in
-      let y = listed-first s n c (omega arith) g in
+      let x = entry-first s n b q f in
+      let y = entry-first s n c (omega arith) g in
       ⊎-elim
       (λ (p : x .0 ≤ y .0). absurd (⊎-elim
       (λ (o : x .0 ≡ y .0). let w : b ≡ c = sym (x .2) ∙ ap (λ k. getD (startsTo s n) k 0) o ∙ y .2 in let v : ⊥ = omega arith in v)
@@ -77,8 +77,8 @@ module _ (s : List ℕ) where
     no-clash =
         any-false (clashRow s (startsTo s n)) (length (startsTo s n)) (λ i l.
         any-false (clashAt s (startsTo s n) i) i (λ j k.
-        let x = first-listed s n i l in
-        let y = first-listed s n j (omega arith) in
+        let x = first-entry s n i l in
+        let y = first-entry s n j (omega arith) in
         valid-apart (getD (startsTo s n) i 0) (getD (startsTo s n) j 0) (starts-increase s n i j k l) (x .1)
         (sym (layout-first s n u (valid .layout) (getD (startsTo s n) i 0) (x .1)) ∙ x .0)
         (sym (layout-first s n u (valid .layout) (getD (startsTo s n) j 0) (y .1)) ∙ y .0)))

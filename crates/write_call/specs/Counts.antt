@@ -10,11 +10,11 @@ use native.Mathlib.Omega.{arith}
 use lib.ListN.{length, getD, length-append, List·getD-append}
 use lib.Seq.{getD-at}
 use Rattle.processor_list.specs.Processors.{ProcessorList}
-use Rattle.laws.specs.Listed.{listBelow}
+use Rattle.laws.specs.NumbersBelow.{listBelow}
 use Rattle.laws.specs.Count.{countBelow, count-cong}
 use Rattle.store_blocks.specs.Blocks.{blockCount}
-use Rattle.store_directory.specs.Scan.{first, startsTo, pad, listed, storeOk, directory}
-use Rattle.store_directory.specs.StoreLaws.{pad-at, directory-listed}
+use Rattle.store_directory.specs.Scan.{first, startsTo, pad, directoryTo, storeOk, directory}
+use Rattle.store_directory.specs.StoreLaws.{pad-at, directory-entries}
 use Rattle.store_directory.specs.declared.Directory.{Directory}
 use Rattle.write_placement.specs.LegalByNumber.{emptiedCountByNumber}
 use Rattle.write_outcome.specs.Legal.{storedIn, emptiedCount}
@@ -45,13 +45,13 @@ module _ (s : List ℕ) (e : ℕ → Bool) where
       go ih false = ih
 
   -- the array of the directory has the list at its beginning
-  listed-count : (d : Directory) (n : ℕ) → d ≡ listed s n → countBelow (d .count) (atEntry (d .starts) e) ≡ countBelow n (storedIn s e)
-  unfolding listed atEntry
-  listed-count d n q =
+  entry-count : (d : Directory) (n : ℕ) → d ≡ directoryTo s n → countBelow (d .count) (atEntry (d .starts) e) ≡ countBelow n (storedIn s e)
+  unfolding directoryTo atEntry
+  entry-count d n q =
       rw q (count-cong (atEntry (pad (startsTo s n)) e) (atEntry (startsTo s n) e) (length (startsTo s n)) (λ i l. ap e (pad-at (startsTo s n) i l))
       ∙ entries-count n)
 
 pub number-count : (old : List ℕ) (list : ProcessorList) (cand : List ℕ) (e : ℕ → Bool) → storeOk old ≡ true
     → emptiedCountByNumber (storedUpdates old list cand) (byNumber old e) ≡ emptiedCount old e
 unfolding emptiedCountByNumber storedUpdates emptiedCount byNumber atEntry
-number-count old list cand e ok = listed-count old e (directory old) (blockCount old) (directory-listed old (directory old) refl ok)
+number-count old list cand e ok = entry-count old e (directory old) (blockCount old) (directory-entries old (directory old) refl ok)

@@ -7,7 +7,7 @@ use borrow.Author.Needs.{needs}
 use Rattle.laws.specs.Below.{allBelow}
 use Rattle.laws.specs.Loops.{each}
 use Rattle.processor_list.specs.Processors.{platformOk}
-use Rattle.processor_list.specs.ListLaws.{listed}
+use Rattle.processor_list.specs.ListLaws.{list-tests}
 use Rattle.processor_list.proofs.list_ok.Statement.{statement}
 use Rattle.processor_list.proofs.list_ok.Tie as tie
 
@@ -23,13 +23,13 @@ list-ok-spec =
     (tie.spec
     Inv-loop
     μ-loop
-    (λ c. search listed)
-    (λ c. search listed)
-    (λ c. search listed)
+    (λ c. search list-tests)
+    (λ c. search list-tests)
+    (λ c. search list-tests)
     (λ c. search (needs, each))
     (λ c κs. search needs)
     (λ c. search needs)
     (λ c. search needs)
     (λ c. search (needs, each))
-    (λ c. search listed)
-    (λ c. search listed))
+    (λ c. search list-tests)
+    (λ c. search list-tests))

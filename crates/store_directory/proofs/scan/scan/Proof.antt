@@ -7,7 +7,7 @@ use native.Mathlib.Numerals.{add-one-le}
 use borrow.Author.Count.{falls}
 use borrow.Author.Needs.{needs}
 use Rattle.laws.specs.Below.{all-stop}
-use Rattle.store_directory.specs.Scan.{sound, scanned, listed}
+use Rattle.store_directory.specs.Scan.{sound, scanned, directoryTo}
 use Rattle.store_directory.specs.SlotLaws.{slot-byte}
 use Rattle.store_directory.specs.ScanLaws.{State, slot-read, state-named, state-start, state-later, state-unused, state-update, state-bad}
 use Rattle.store_directory.proofs.scan.scan.Statement.{statement}
@@ -47,7 +47,7 @@ loop-again c = let st = c .before .before .loop .inv .1 in (
 )
 
 returns-2 : tie.Need-returns-2 Inv-loop μ-loop
-unfolding scanned listed
+unfolding scanned directoryTo
 returns-2 c = let st = c .before .loop .inv .1 in
     let e : c .before .loop .b ≡ c .before .before .before .args .n = le-antisymm (c .before .loop .inv .0) (c .loop-test .left) in
     rw (← e, st .all-sound, st .count-is, ← st .starts-are, ← st .sizes-are)

@@ -1,7 +1,7 @@
 -- The numbers below n that pass a test, in order, each by the number that stands for it.
 --   itself           a number stands for itself
 --   listBelow        the list
---   Listed, listed   what it is, beside the list of the numbers themselves
+--   NumbersBelow, numbers-below   what it is, beside the list of the numbers themselves
 use Prim.Native.Nat.{ℕ, zero, suc, _<_, _≤_}
 use mathlib.Core.Path.{_≡_, refl, sym, _∙_}
 use mathlib.Core.Bool.{Bool, true, false, cond, true≢false}
@@ -20,7 +20,7 @@ listBelow p f zero = []
 listBelow p f (suc n) = cond (p n) (listBelow p f n ++ (f n ∷ [])) (listBelow p f n)
 
 -- xs has the numbers below n that pass p, in order, and ys beside each what f gives for it
-pub record Listed (p : ℕ → Bool) (f : ℕ → ℕ) (n : ℕ) (xs ys : List ℕ) : Type 0 where
+pub record NumbersBelow (p : ℕ → Bool) (f : ℕ → ℕ) (n : ℕ) (xs ys : List ℕ) : Type 0 where
   pub few : length xs ≤ n
   pub long : length ys ≡ length xs
   pub below : (i : ℕ) → i < length xs → getD xs i 0 < n
@@ -29,9 +29,9 @@ pub record Listed (p : ℕ → Bool) (f : ℕ → ℕ) (n : ℕ) (xs ys : List �
   pub rises : (i j : ℕ) → j < i → i < length xs → getD xs j 0 < getD xs i 0
   pub whole : (b : ℕ) → b < n → p b ≡ true → (i : ℕ) × (i < length xs) × (getD xs i 0 ≡ b)
 
-module _ (p : ℕ → Bool) (f : ℕ → ℕ) (n : ℕ) (xs ys : List ℕ) (h : Listed p f n xs ys) where
+module _ (p : ℕ → Bool) (f : ℕ → ℕ) (n : ℕ) (xs ys : List ℕ) (h : NumbersBelow p f n xs ys) where
   -- a number that fails
-  skipped : p n ≡ false → Listed p f (suc n) xs ys
+  skipped : p n ≡ false → NumbersBelow p f (suc n) xs ys
   skipped e = record {
     few = omega (arith, h .few);
     long = h .long;
@@ -59,7 +59,7 @@ module _ (p : ℕ → Bool) (f : ℕ → ℕ) (n : ℕ) (xs ys : List ℕ) (h : 
         ⊎-elim (λ (q : i ≡ length xs). rw (new i q) b) (λ (m : i < length xs). rw (old i m) (a i m))
         (eq-or-lt-of-le {n = i} {m = length xs} (omega (arith, longer)))
 
-    taken : Listed p f (suc n) (xs ++ (n ∷ [])) (ys ++ (f n ∷ []))
+    taken : NumbersBelow p f (suc n) (xs ++ (n ∷ [])) (ys ++ (f n ∷ []))
     taken = record {
       few = omega (arith, h .few, longer);
       long = omega (arith, h .long, longer, length-append ys (f n ∷ []));
@@ -79,9 +79,9 @@ module _ (p : ℕ → Bool) (f : ℕ → ℕ) (n : ℕ) (xs ys : List ℕ) (h : 
           (eq-or-lt-of-le (le-of-suc-le-suc l));
     }
 
-pub listed : (p : ℕ → Bool) (f : ℕ → ℕ) (n : ℕ) → Listed p f n (listBelow p itself n) (listBelow p f n)
+pub numbers-below : (p : ℕ → Bool) (f : ℕ → ℕ) (n : ℕ) → NumbersBelow p f n (listBelow p itself n) (listBelow p f n)
 unfolding listBelow
-listed p f zero = record {
+numbers-below p f zero = record {
   few = omega arith;
   long = refl;
   below = λ i l. absurd (not-suc-le-zero l);
@@ -90,9 +90,9 @@ listed p f zero = record {
   rises = λ i j l m. absurd (not-suc-le-zero m);
   whole = λ b l q. absurd (not-suc-le-zero l);
 }
-listed p f (suc n) = go (p n) refl (listed p f n)
+numbers-below p f (suc n) = go (p n) refl (numbers-below p f n)
   where
-    go : (t : Bool) → p n ≡ t → Listed p f n (listBelow p itself n) (listBelow p f n)
-        → Listed p f (suc n) (cond t (listBelow p itself n ++ (n ∷ [])) (listBelow p itself n)) (cond t (listBelow p f n ++ (f n ∷ [])) (listBelow p f n))
+    go : (t : Bool) → p n ≡ t → NumbersBelow p f n (listBelow p itself n) (listBelow p f n)
+        → NumbersBelow p f (suc n) (cond t (listBelow p itself n ++ (n ∷ [])) (listBelow p itself n)) (cond t (listBelow p f n ++ (f n ∷ [])) (listBelow p f n))
     go true e h = taken p f n (listBelow p itself n) (listBelow p f n) h e
     go false e h = skipped p f n (listBelow p itself n) (listBelow p f n) h e
