@@ -1,5 +1,5 @@
 -- An update is settled by its T bytes: bytes that agree with it there are the same update, wherever they lie and whatever stands behind.
---   verdict-behind                             any two lent parts, each 48 bytes or longer and T or longer, that agree on those bytes have the same
+--   verdict-behind                             two lent parts, each 48 bytes and T or longer, that agree on those bytes have the same
 --                                              verdict, a good one or not: "Bytes behind T are ignored"
 --   field-behind, total-behind                 the same fields of the header, and the same T
 --   field-local, data-local, revision-local    the same fields of the header, number of data bytes and revision, of a good update
@@ -64,7 +64,8 @@ module _ (s r : List ℕ) (same : Same s r (max 48 (totalSize s))) where
         rw (← data-alike, ← total-behind, le-leb t (length s) lent, le-leb t (length r) long)
         (bool-same _ _
         (λ h. and-made (sizes-alike d t (tableCount s) (tableCount r) (and-parts (sizesOk d t (tableCount s)) true h .0) count-alike .0) refl)
-        (λ h. and-made (sizes-alike d t (tableCount r) (tableCount s) (and-parts (sizesOk d t (tableCount r)) true h .0) (λ l. sym (count-alike l)) .0) refl))
+        (λ h. and-made (sizes-alike d t (tableCount r) (tableCount s) (and-parts (sizesOk d t (tableCount r)) true h .0)
+        (λ l. sym (count-alike l)) .0) refl))
 
     module _ (fit : sizesFit s ≡ true) where
       within : Inside s
@@ -101,7 +102,8 @@ module _ (s r : List ℕ) (same : Same s r (max 48 (totalSize s))) where
             dword-alike (48 + dataSize s + 20 + 12 * i + 8) (omega arith),
           )
 
-      entry-sums-alike : allBelow (entryCount s) (entryOk s (dataSize s) (headerSum s)) ≡ allBelow (entryCount r) (entryOk r (dataSize r) (headerSum r))
+      entry-sums-alike : allBelow (entryCount s) (entryOk s (dataSize s) (headerSum s))
+          ≡ allBelow (entryCount r) (entryOk r (dataSize r) (headerSum r))
       entry-sums-alike =
           rw (← entries-alike, ← data-alike, ← header-sum-alike)
           (all-cong (entryOk s (dataSize s) (headerSum s)) (entryOk r (dataSize s) (headerSum s)) (entryCount s) (entry-alike (headerSum s)))
@@ -122,7 +124,8 @@ module _ (s r : List ℕ) (same : Same s r (max 48 (totalSize s))) where
           sums : List ℕ → Verdict
           sums x = unless (sumsOk x) BadSum (Good (totalSize x) (dataSize x) (entryCount x) (blocksOf (totalSize x)))
 
-          go : (t : Bool) → sizesFit s ≡ t → unless (headerOk s) BadHeader (unless t BadHeader (sums s)) ≡ unless (headerOk s) BadHeader (unless t BadHeader (sums r))
+          go : (t : Bool) → sizesFit s ≡ t → unless (headerOk s) BadHeader (unless t BadHeader (sums s))
+              ≡ unless (headerOk s) BadHeader (unless t BadHeader (sums r))
           go false q = refl
           go true q = rw (sums-alike q, total-behind, data-alike, entries-alike q)
 

@@ -1,5 +1,5 @@
--- "Bytes behind T are ignored" (document 01, "The update"), of the whole write: two candidates that agree on their header and their T bytes,
--- with T in the lent bytes of both, are answered alike.
+-- "Bytes behind T are ignored" (document 01, "The update"), of the whole write: two candidates that agree on their header and their T
+-- bytes, with T in the lent bytes of both, are answered alike.
 --   behind-plan       the plans are equal
 --   behind-outcome    the bytes of an outcome are equal
 --   behind-ignored    the answers are equal, and the bytes afterwards
@@ -117,7 +117,8 @@ module _ (old : List ℕ) (list : ProcessorList) (cand other : List ℕ) (same :
     emptied-same start b = rw (shares-same (fromBlock old b), total-behind cand other same)
 
     pub behind-outcome : (start : ℕ)
-        → outcomeBytes old (totalSize cand) cand start (emptiedAt old cand start) ≡ outcomeBytes old (totalSize other) other start (emptiedAt old other start)
+        → outcomeBytes old (totalSize cand) cand start (emptiedAt old cand start)
+        ≡ outcomeBytes old (totalSize other) other start (emptiedAt old other start)
     behind-outcome start =
         let e : emptiedAt old cand start ≡ emptiedAt old other start = fun-ext (emptied-same start) in
         rw (← total-behind cand other same, e)
@@ -150,5 +151,6 @@ module _ (old : List ℕ) (list : ProcessorList) (cand other : List ℕ) (same :
               rw (revision-same, behind-outcome (totalSize cand) (w .data) (w .entries) (blocksOf (totalSize cand)) (w .good) start)
           go (Refuse ah al) e = refl
 
-      pub behind-ignored : (writeAnswer old list cand back ≡ writeAnswer old list other back) × (writeBytes old list cand back ≡ writeBytes old list other back)
+      pub behind-ignored : (writeAnswer old list cand back ≡ writeAnswer old list other back)
+          × (writeBytes old list cand back ≡ writeBytes old list other back)
       behind-ignored = (behind-answer, behind-bytes)

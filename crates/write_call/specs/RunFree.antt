@@ -19,4 +19,5 @@ use Rattle.processor_list.specs.Processors.{ProcessorList, coversOne}
 pub record RunFree (old : List ℕ) (list : ProcessorList) (cand : List ℕ) (start : ℕ) : Type 0 where
   pub ends : start + blocksOf (totalSize cand) ≤ blockCount old
   pub free : (c : ℕ) → start ≤ c → c < start + blocksOf (totalSize cand)
-      → (kindAt old c ≡ Unused) ⊎ ((b : ℕ) × Owned old (first old) b c × (Shares (fromBlock old b) cand ⊎ (coversOne list (fromBlock old b) ≡ false)))
+      → (kindAt old c ≡ Unused)
+      ⊎ ((b : ℕ) × Owned old (first old) b c × (Shares (fromBlock old b) cand ⊎ (coversOne list (fromBlock old b) ≡ false)))

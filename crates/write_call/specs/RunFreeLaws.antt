@@ -82,9 +82,11 @@ module _ (old : List ℕ) (list : ProcessorList) (cand : List ℕ) (ok : storeOk
             inr (sym (unshared-needed list cand (fromBlock old b) q)
             ∙ no-true (isNeeded list cand (fromBlock old b)) (λ n. legal .spares b l f (needed-law list cand (fromBlock old b) .0 n) g))
 
-    module _ (some : 1 ≤ blocksOf (totalSize cand)) (none : anyBelow (h .count) (bothMarks h) ≡ false) (run : RunFree old list cand start) where
+    module _ (some : 1 ≤ blocksOf (totalSize cand)) (none : anyBelow (h .count) (bothMarks h) ≡ false)
+        (run : RunFree old list cand start) where
       -- an update that shares isn't needed
-      shared-spare : (b : ℕ) → b < blockCount old → first old b ≡ true → shares (fromBlock old b) cand ≡ true → Needed list cand (fromBlock old b) → ⊥
+      shared-spare : (b : ℕ) → b < blockCount old → first old b ≡ true → shares (fromBlock old b) cand ≡ true
+          → Needed list cand (fromBlock old b) → ⊥
       unfolding bothMarks storedUpdates sharesEntry neededEntry
       shared-spare b l f s k =
           let entries : Listing old (directory old) = listing old ok (directory old) refl in
@@ -110,7 +112,8 @@ module _ (old : List ℕ) (list : ProcessorList) (cand : List ℕ) (ok : storeOk
           (run .free c (omega arith) (omega arith))
 
       -- no update that is emptied is needed
-      emptied-spare : (b : ℕ) → b < blockCount old → first old b ≡ true → Needed list cand (fromBlock old b) → emptiedAt old cand start b ≡ true → ⊥
+      emptied-spare : (b : ℕ) → b < blockCount old → first old b ≡ true → Needed list cand (fromBlock old b)
+          → emptiedAt old cand start b ≡ true → ⊥
       unfolding emptiedAt touchedAt
       emptied-spare b l f k e = go (shares (fromBlock old b) cand) refl e
         where
@@ -121,7 +124,8 @@ module _ (old : List ℕ) (list : ProcessorList) (cand : List ℕ) (ok : storeOk
               touched-spare b l f (ltb-true start (b + sizeAt old b) (x .0)) (ltb-true b (start + blocksOf (totalSize cand)) (x .1)) k
 
       -- an update that has a block of the run is emptied
-      touched-emptied : (b c : ℕ) → start ≤ c → c < start + blocksOf (totalSize cand) → Owned old (first old) b c → emptiedAt old cand start b ≡ true
+      touched-emptied : (b c : ℕ) → start ≤ c → c < start + blocksOf (totalSize cand) → Owned old (first old) b c
+          → emptiedAt old cand start b ≡ true
       unfolding emptiedAt touchedAt
       touched-emptied b c p q o = go (shares (fromBlock old b) cand)
         where
@@ -151,7 +155,8 @@ module _ (old : List ℕ) (list : ProcessorList) (cand : List ℕ) (ok : storeOk
       λ shut. go shut (choose (blockCount old) (blocksOf (totalSize cand)) h) refl,
     )
       where
-        go : ((start : ℕ) → RunFree old list cand start → ⊥) → (p : Pick) → choose (blockCount old) (blocksOf (totalSize cand)) h ≡ p → p ≡ nowhere
+        go : ((start : ℕ) → RunFree old list cand start → ⊥) → (p : Pick)
+            → choose (blockCount old) (blocksOf (totalSize cand)) h ≡ p → p ≡ nowhere
         go shut nowhere e = refl
         go shut (at start c) e =
             let best = choose-some (blockCount old) (blocksOf (totalSize cand)) h some (stored-laid old list cand ok) start c e .0 in

@@ -58,7 +58,8 @@ module _ (old : List ℕ) (list other : ProcessorList) (cand : List ℕ) (same :
     unfolding writePlan
     plan-same = rw (ok, fine, judged-same (verdict cand))
 
-pub lists-same : (old : List ℕ) (list other : ProcessorList) (cand : List ℕ) (back : ℕ) → listOk list ≡ true → listOk other ≡ true → SameListed list other
+pub lists-same : (old : List ℕ) (list other : ProcessorList) (cand : List ℕ) (back : ℕ) → listOk list ≡ true → listOk other ≡ true
+    → SameListed list other
     → (writeAnswer old list cand back ≡ writeAnswer old other cand back) × (writeBytes old list cand back ≡ writeBytes old other cand back)
 unfolding writeAnswer writeBytes
 lists-same old list other cand back ok fine same =
