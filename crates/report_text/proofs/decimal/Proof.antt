@@ -7,8 +7,8 @@ use Rattle.report_text.proofs.decimal.Tie as tie
 
 returns-2 : tie.Need-returns-2
 returns-2 c =
-    let f = c .before .before in
-    rw (decimal-two _ (f .if1 .left) (f .before .pre .0)) (added-more _ _ _ _ _ (c .before .byte2 .ensures) (c .byte3 .ensures))
+    let f = c .before .before .before in
+    rw (decimal-two (f .args .n) (omega arith) (f .pre .0)) (added-more _ _ _ _ _ (c .before .byte2 .ensures) (c .byte3 .ensures))
 
 pub decimal-spec : {M : Type 1} → statement M
 decimal-spec =
