@@ -8,11 +8,17 @@
 --   entry      entry k of the table at `at`
 --   entries    its first n entries, for the signatures after `signature`
 --   tabled     an update of d data bytes with a table of n entries; nothing where d or n is far too large
-use Prim.Native.Nat.{ℕ, zero, suc, _+_, _*_, _-_, _%_, _^_}
-use mathlib.Core.Bool.{cond, _&&_}
+--   entries-none, entries-more, entries-done    the loop over the entries
+--   tabled-long, tabled-many, tabled-made       the ways of the code to `tabled`
+use Prim.Native.Nat.{ℕ, zero, suc, _+_, _*_, _-_, _%_, _^_, _<_, _≤_}
+use mathlib.Core.Path.{_≡_, refl}
+use mathlib.Core.Bool.{cond, _&&_, and-false}
 use mathlib.Core.List.{List}
+use native.Mathlib.Numerals.{add-one}
+use native.Mathlib.Omega.{arith}
 use lib.Dec.{leb}
 use lib.ListN.{take, drop}
+use borrow.Author.Tests.{le-leb, lt-leb}
 use Rattle.bytes_dwords.specs.Sum.{dwordSum}
 use Rattle.update_header.specs.Fields as fields
 use Rattle.test_samples.specs.SampleBytes.{putDword}
@@ -49,3 +55,31 @@ tabled s signature flags d n =
     cond (leb d 65536 && leb n 1000)
     (balance (entries (putDword (balance (header s 7 signature flags d (48 + d + 20 + 12 * n)) 16 0 (48 + d)) (48 + d) n) (48 + d) signature flags n) (48 + d + 4) (48 + d) (48 + d + 20 + 12 * n))
     s
+
+module _ (s : List ℕ) (at signature flags : ℕ) where
+  pub entries-none : s ≡ entries s at signature flags 0
+  unfolding entries
+  entries-none = refl
+
+  -- b is the buffer with k entries, and r with one more
+  pub entries-more : (b r : List ℕ) (k next : ℕ) → b ≡ entries s at signature flags k → next ≡ (signature + (k + 1)) % 2 ^ 32 → r ≡ entry b at k next flags → r ≡ entries s at signature flags (k + 1)
+  unfolding entries
+  entries-more b r k next e f h = rw (add-one k, ← e, ← f) h
+
+  pub entries-done : (b : List ℕ) (k n : ℕ) → b ≡ entries s at signature flags k → k ≤ n → n ≤ k → b ≡ entries s at signature flags n
+  entries-done b k n e l m = let q : k ≡ n = omega arith in rw q at e
+
+module _ (s : List ℕ) (signature flags d n : ℕ) where
+  pub tabled-long : 65536 < d → s ≡ tabled s signature flags d n
+  unfolding tabled
+  tabled-long l = rw (lt-leb d 65536 l)
+
+  pub tabled-many : 1000 < n → s ≡ tabled s signature flags d n
+  unfolding tabled
+  tabled-many l = rw (lt-leb n 1000 l, and-false (leb d 65536))
+
+  -- what each call left
+  pub tabled-made : (a b c e r : List ℕ) → d ≤ 65536 → n ≤ 1000 → a ≡ header s 7 signature flags d (48 + d + 20 + 12 * n) → b ≡ balance a 16 0 (48 + d) → c ≡ putDword b (48 + d) n
+      → e ≡ entries c (48 + d) signature flags n → r ≡ balance e (48 + d + 4) (48 + d) (48 + d + 20 + 12 * n) → r ≡ tabled s signature flags d n
+  unfolding tabled
+  tabled-made a b c e r l m f g h i j = rw (le-leb d 65536 l, le-leb n 1000 m, ← f, ← g, ← h, ← i) j

@@ -3,11 +3,15 @@
 --   bytesOf    the four bytes of a number
 --   putDword   one number, little-endian
 --   fill       n times the same byte
-use Prim.Native.Nat.{ℕ, _+_, _%_, _/_}
-use mathlib.Core.Bool.{cond, _&&_}
+--   putting    the ways of the code, as `search` takes them
+use Prim.Native.Nat.{ℕ, _+_, _%_, _/_, _<_, _≤_}
+use mathlib.Core.Path.{_≡_}
+use mathlib.Core.Bool.{cond, _&&_, and-false}
 use mathlib.Core.List.{List, [], _∷_}
+use native.Mathlib.Omega.{arith}
 use lib.Dec.{leb}
 use lib.ListN.{length, replicate}
+use borrow.Author.Tests.{le-leb, lt-leb}
 use Rattle.bytes_copy.specs.Paste.{putAt}
 
 unfoldable pub put : List ℕ → ℕ → List ℕ → ℕ → List ℕ
@@ -21,3 +25,25 @@ putDword s at x = put s at (bytesOf x) 4
 
 unfoldable pub fill : List ℕ → ℕ → ℕ → ℕ → List ℕ
 fill s from n byte = put s from (replicate 32768 byte) n
+
+module _ (s : List ℕ) (at : ℕ) (p : List ℕ) (n : ℕ) where
+  pub put-done : (r : List ℕ) → n ≤ 32768 → n ≤ length p → at + n ≤ length s → r ≡ putAt s at p n → r ≡ put s at p n
+  unfolding put
+  put-done r a b c e = rw (le-leb n 32768 a, le-leb n (length p) b, le-leb (at + n) (length s) c) e
+
+  pub put-long : 32768 < n → s ≡ put s at p n
+  unfolding put
+  put-long l = rw (lt-leb n 32768 l)
+
+  pub put-more : length p < n → s ≡ put s at p n
+  unfolding put
+  put-more l = rw (lt-leb n (length p) l, and-false (leb n 32768))
+
+  pub put-short : length s < at + n → s ≡ put s at p n
+  unfolding put
+  put-short l = rw (lt-leb (at + n) (length s) l, and-false (leb n 32768 && leb n (length p)))
+
+  pub put-outside : length s < at → s ≡ put s at p n
+  put-outside l = put-short (omega arith)
+
+pub ruleset putting = (put-done, put-long, put-more, put-short, put-outside)

@@ -4,14 +4,15 @@ ghost use lib.ListN.{take, drop};
 ghost use Rattle.test_samples.specs.SampleBytes.{put, putDword, fill};
 
 // Puts the first `n` bytes of `src` at `at`, where both are long enough and n is at most 32,768.
-pub fn put(buf: &mut [u8], at: usize, src: &[u8], n: usize)
+pub fn put(buf: &mut [u8], at: usize, src: &[u8], n: u32)
     ensures { λ _. ⌜ now (buf .exit) ≡ put (now (buf .entry)) at (now (src .entry)) n ⌝ }
 {
-    if n <= 32768 {
-        if n <= src.len() {
+    let count = n as usize;
+    if count <= 32768 {
+        if count <= src.len() {
             if at <= buf.len() {
-                if at + n <= buf.len() {
-                    bytes_copy::put(buf, at, src, n);
+                if at + count <= buf.len() {
+                    bytes_copy::put(buf, at, src, count);
                 }
             }
         }
@@ -32,7 +33,7 @@ pub fn dword(buf: &mut [u8], at: usize, x: u32)
 }
 
 // Fills `n` bytes from `from` on with one byte.
-pub fn fill(buf: &mut [u8], from: usize, n: usize, byte: u8)
+pub fn fill(buf: &mut [u8], from: usize, n: u32, byte: u8)
     ensures { λ _. ⌜ now (buf .exit) ≡ fill (now (buf .entry)) from n byte ⌝ }
 {
     let same = [byte; 32768];

@@ -1,6 +1,6 @@
 -- `test_samples::bytes::put` meets its contract: a way for each test.
 use borrow.Author.Needs.{needs}
-use Rattle.test_samples.specs.SampleBytesLaws.{putting}
+use Rattle.test_samples.specs.SampleBytes.{putting}
 use Rattle.test_samples.proofs.bytes.put.Statement.{statement}
 use Rattle.test_samples.proofs.bytes.put.Tie as tie
 

@@ -4,8 +4,7 @@ use Prim.Native.Nat.{_≤_, _-_}
 use native.Mathlib.Omega.{arith}
 use lib.ListN.{length}
 use borrow.Author.Needs.{needs}
-use Rattle.test_samples.specs.Make.{entries}
-use Rattle.test_samples.specs.MakeLaws.{entries-none, entries-more, entries-done}
+use Rattle.test_samples.specs.Make.{entries, entries-none, entries-more, entries-done}
 use Rattle.test_samples.proofs.make.entries.Statement.{statement}
 use Rattle.test_samples.proofs.make.entries.Tie as tie
 

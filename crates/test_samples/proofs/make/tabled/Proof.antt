@@ -1,7 +1,7 @@
 -- `test_samples::make::tabled` meets its contract: a return at each test, then the calls one behind the other.
 use native.Mathlib.Omega.{arith}
 use borrow.Author.Needs.{needs}
-use Rattle.test_samples.specs.MakeLaws.{tabled-long, tabled-many, tabled-made}
+use Rattle.test_samples.specs.Make.{tabled-long, tabled-many, tabled-made}
 use Rattle.test_samples.proofs.make.tabled.Statement.{statement}
 use Rattle.test_samples.proofs.make.tabled.Tie as tie
 
