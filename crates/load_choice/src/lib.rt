@@ -18,7 +18,7 @@ fn find(store: &[u8], d: Directory, signature: u32, platform: u32) -> LoadChoice
     while i < d.count {
         let start = bytes_dwords::wide(d.starts[i]);
         let u = store_blocks::from_block(store, start);
-        if update_coverage::covers(u, signature, platform) {
+        if update_coverage::covers_with(u, update_coverage::judged_pairs(u), signature, platform) {
             return LoadChoice::Chosen {
                 start,
                 revision: fields::revision(u),

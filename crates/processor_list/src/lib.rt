@@ -3,13 +3,12 @@ ghost use mathlib.Core.Path.{_≡_};
 ghost use Prim.Native.Nat.{_≤_, _<_};
 ghost use mathlib.Core.Bool.{not, _&&_};
 ghost use lib.ListN.{length};
-ghost use Rattle.update_header.specs.Fields.{dataSize};
-ghost use Rattle.update_coverage.specs.Covers.{pairCount};
+ghost use Rattle.update_coverage.specs.Covers.{pairsOf};
 ghost use Rattle.laws.specs.Below.{anyBelow};
 ghost use Rattle.processor_list.specs.Processors.{listOf, platformOk, listOk, coversListed};
 ghost use Rattle.laws.specs.Arrays.{markAt};
 ghost use Rattle.processor_list.specs.Covered.{Covered, neededByMarks};
-use update_header::fields;
+use update_coverage::Pairs;
 
 fn platform_ok(platforms: &[u8], i: usize) -> bool
     requires { ⌜ i < length (now platforms) ⌝ }
@@ -42,25 +41,23 @@ pub fn list_ok(signatures: &[u32], platforms: &[u8]) -> bool
     true
 }
 
-// Does the update cover listed processor `i`? `d` is the number of its data bytes and `n` that of its pairs.
-fn covers_listed(signatures: &[u32], platforms: &[u8], u: &[u8], d: u32, n: u32, i: usize) -> bool
-    requires { ⌜ (i < length (now signatures)) × (i < length (now platforms)) × (d ≡ dataSize (now u)) × (n ≡ pairCount (now u)) ⌝ }
+// Does the update cover listed processor `i`?
+fn covers_listed(signatures: &[u32], platforms: &[u8], u: &[u8], pairs: Pairs, i: usize) -> bool
+    requires { ⌜ (i < length (now signatures)) × (i < length (now platforms)) × (pairs ≡ pairsOf (now u)) ⌝ }
     ensures { λ r. ⌜ r ≡ coversListed (listOf (now (signatures .entry)) (now (platforms .entry))) (now (u .entry)) i ⌝ }
 {
-    update_coverage::covers_with(u, d, n, signatures[i], bytes_dwords::wide(platforms[i]))
+    update_coverage::covers_with(u, pairs, signatures[i], bytes_dwords::wide(platforms[i]))
 }
 
 // Marks the listed processors that the candidate covers.
-pub fn covered(signatures: &[u32], platforms: &[u8], candidate: &[u8]) -> [bool; 8]
-    requires { ⌜ (length (now signatures) ≤ 8) × (length (now signatures) ≡ length (now platforms)) ⌝ }
+pub fn covered(signatures: &[u32], platforms: &[u8], candidate: &[u8], pairs: Pairs) -> [bool; 8]
+    requires { ⌜ (length (now signatures) ≤ 8) × (length (now signatures) ≡ length (now platforms)) × (pairs ≡ pairsOf (now candidate)) ⌝ }
     ensures { λ r. ⌜ Covered (listOf (now (signatures .entry)) (now (platforms .entry))) (now (candidate .entry)) r ⌝ }
 {
-    let d = fields::data_size(candidate);
-    let n = update_coverage::pair_count(candidate);
     let mut marks = [false; 8];
     let mut i: usize = 0;
     while i < signatures.len() {
-        marks[i] = covers_listed(signatures, platforms, candidate, d, n, i);
+        marks[i] = covers_listed(signatures, platforms, candidate, pairs, i);
         i += 1;
     }
     marks
@@ -86,14 +83,13 @@ fn needed_for(
     platforms: &[u8],
     mark: bool,
     u: &[u8],
-    d: u32,
-    n: u32,
+    pairs: Pairs,
     i: usize,
 ) -> bool
-    requires { ⌜ (i < length (now signatures)) × (i < length (now platforms)) × (d ≡ dataSize (now u)) × (n ≡ pairCount (now u)) ⌝ }
+    requires { ⌜ (i < length (now signatures)) × (i < length (now platforms)) × (pairs ≡ pairsOf (now u)) ⌝ }
     ensures { λ r. ⌜ r ≡ coversListed (listOf (now (signatures .entry)) (now (platforms .entry))) (now (u .entry)) i && not mark ⌝ }
 {
-    if covers_listed(signatures, platforms, u, d, n, i) {
+    if covers_listed(signatures, platforms, u, pairs, i) {
         if mark { false } else { true }
     } else {
         false
@@ -106,17 +102,15 @@ pub fn is_needed(
     platforms: &[u8],
     marks: [bool; 8],
     u: &[u8],
-    d: u32,
-    n: u32,
+    pairs: Pairs,
 ) -> bool
-    requires { ⌜ (length (now signatures) ≤ 8) × (length (now signatures) ≡ length (now platforms)) × (d ≡ dataSize (now u)) ×
-        (n ≡ pairCount (now u)) ⌝ }
+    requires { ⌜ (length (now signatures) ≤ 8) × (length (now signatures) ≡ length (now platforms)) × (pairs ≡ pairsOf (now u)) ⌝ }
     ensures { λ r. ⌜ r ≡ anyBelow (length (now (signatures .entry))) (neededByMarks (listOf (now (signatures .entry))
         (now (platforms .entry))) marks (now (u .entry))) ⌝ }
 {
     let mut i: usize = 0;
     while i < signatures.len() {
-        if needed_for(signatures, platforms, marks[i], u, d, n, i) {
+        if needed_for(signatures, platforms, marks[i], u, pairs, i) {
             return true;
         }
         i += 1;

@@ -1,8 +1,7 @@
 -- What the scan for a common processor keeps of the updates that it has passed, and its turns.
---   ofStart, Kept            an array holds f of the first i updates: their data sizes, or their numbers of pairs
---   kept-none                the arrays at the start
---   more-data, more-pairs    one more update
---   held-data, held-pairs    what stands in the arrays
+--   noPairs, pairsAt, Kept   an array holds the readings of the first i updates' headers
+--   kept-none, kept-more     the array at the start, and with one more update
+--   kept-at                  what stands in the array
 --   clash-more, clash-stop   a turn of the inner scan, and its way out
 --   row-more, clash-done     a turn of the outer scan, and its end
 --   clash-few                fewer than two updates have no processor in common
@@ -15,40 +14,33 @@ use lib.ListN.{getD, set, replicate}
 use Rattle.laws.specs.Below.{anyBelow, any-more, any-stop}
 use Rattle.laws.specs.Loops.{scan-more}
 use Rattle.laws.specs.Arrays.{Filled, filled-none, filled-more}
-use Rattle.update_header.specs.Fields.{dataSize}
-use Rattle.update_coverage.specs.Covers.{pairCount}
+use Rattle.update_coverage.specs.Covers.{pairsOf}
+use Rattle.update_coverage.specs.declared.Pairs.{Pairs}
 use Rattle.update_sharing.specs.Shares.{shares}
 use Rattle.store_blocks.specs.Blocks.{fromBlock}
 use Rattle.store_directory.specs.Scan.{clashAt, clashRow, clash}
 
--- f of the update that begins at number k of xs
-unfoldable pub ofStart : (List ℕ → ℕ) → List ℕ → List ℕ → ℕ → ℕ
-ofStart f s xs k = f (fromBlock s (getD xs k 0))
+abbrev pub noPairs : Pairs
+noPairs = record { «data» = 0; count = 0 }
 
-abbrev pub Kept : (List ℕ → ℕ) → List ℕ → List ℕ → ℕ → List ℕ → Type 0
-Kept f s xs i held = Filled 0 32 (ofStart f s xs) i held
+-- the reading of the update that begins at number k of xs
+unfoldable pub pairsAt : List ℕ → List ℕ → ℕ → Pairs
+pairsAt s xs k = pairsOf (fromBlock s (getD xs k 0))
 
-pub kept-none : (f : List ℕ → ℕ) (s xs : List ℕ) → Kept f s xs 0 (replicate 32 0)
-kept-none f s xs = filled-none _ _ _
+abbrev pub Kept : List ℕ → List ℕ → ℕ → List Pairs → Type 0
+Kept s xs i held = Filled noPairs 32 (pairsAt s xs) i held
 
--- what stands in the arrays, of a part b that is read anew
-module _ (s xs b : List ℕ) (k i : ℕ) (held : List ℕ) (l : k < i) (e : b ≡ fromBlock s (getD xs k 0)) where
-  pub held-data : Kept dataSize s xs i held → getD held k 0 ≡ dataSize b
-  unfolding ofStart
-  held-data h = rw e (h .each k l)
+pub kept-none : (s xs : List ℕ) → Kept s xs 0 (replicate 32 noPairs)
+kept-none s xs = filled-none _ _ _
 
-  pub held-pairs : Kept pairCount s xs i held → getD held k 0 ≡ pairCount b
-  unfolding ofStart
-  held-pairs h = rw e (h .each k l)
+-- what stands in the array, of a part b that is read anew
+pub kept-at : (s xs b : List ℕ) (k i : ℕ) (held : List Pairs) → k < i → b ≡ fromBlock s (getD xs k 0) → Kept s xs i held → getD held k noPairs ≡ pairsOf b
+unfolding pairsAt
+kept-at s xs b k i held l e h = rw e (h .each k l)
 
-module _ (s xs a : List ℕ) (i x : ℕ) (held : List ℕ) (l : i < 32) (e : a ≡ fromBlock s (getD xs i 0)) where
-  pub more-data : Kept dataSize s xs i held → x ≡ dataSize a → Kept dataSize s xs (i + 1) (set held i x)
-  unfolding ofStart
-  more-data h q = filled-more _ _ _ _ i x h l (q ∙ rw e)
-
-  pub more-pairs : Kept pairCount s xs i held → x ≡ pairCount a → Kept pairCount s xs (i + 1) (set held i x)
-  unfolding ofStart
-  more-pairs h q = filled-more _ _ _ _ i x h l (q ∙ rw e)
+pub kept-more : (s xs a : List ℕ) (i : ℕ) (x : Pairs) (held : List Pairs) → i < 32 → a ≡ fromBlock s (getD xs i 0) → Kept s xs i held → x ≡ pairsOf a → Kept s xs (i + 1) (set held i x)
+unfolding pairsAt
+kept-more s xs a i x held l e h q = filled-more _ _ _ _ i x h l (q ∙ rw e)
 
 -- a turn of the inner scan and its way out: r is what a call answered of the parts a and b
 module _ (s xs a b : List ℕ) (i j : ℕ) (r : Bool) (ea : a ≡ fromBlock s (getD xs i 0)) (eb : b ≡ fromBlock s (getD xs j 0)) (h : r ≡ shares a b) where

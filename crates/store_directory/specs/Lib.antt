@@ -13,3 +13,4 @@ pub mod LayoutLaws
 pub mod ValidLaws
 pub mod KindLaws
 pub mod DirectoryLaws
+pub mod PairedLaws

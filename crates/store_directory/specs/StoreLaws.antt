@@ -1,6 +1,7 @@
 -- From the reading of the blocks to the verdict on the store.
 --   pad-at           an array's first elements are the list's
 --   scanned-few      the reading lists at most n updates
+--   d-entries        where it finds nothing bad it is what the blocks list
 --   store-bad .. store-length    the four ways to the directory
 --   store-parts      the three tests of a store
 --   directory-ok, directory-good    the directory says whether the store is valid
@@ -53,7 +54,7 @@ module _ (s : List ℕ) (d : Directory) (e : d ≡ scanned s (length s / 2048)) 
   d-sound : (t : Bool) → d .ok ≡ t → allBelow (length s / 2048) (sound s) ≡ t
   d-sound t h = sym (scanned-ok s (length s / 2048)) ∙ ap (λ (x : Directory). x .ok) (sym e) ∙ h
 
-  d-entries : d .ok ≡ true → d ≡ directoryTo s (length s / 2048)
+  pub d-entries : d .ok ≡ true → d ≡ directoryTo s (length s / 2048)
   unfolding scanned
   d-entries h = e ∙ rw (d-sound true h)
 

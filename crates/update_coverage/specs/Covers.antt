@@ -1,7 +1,8 @@
 -- Which processors an update covers (document 01, "The update"): the header and the entries are its pairs of a signature and flags. Pair 0
 -- is the header's, pair k + 1 that of entry k.
 --   pairCount                     how many pairs: none where check 2 or 3 fails
---   signatureOffset, flagsOffset        where they stand
+--   pairsOf                       one reading of the header: the number of data bytes and that of the pairs
+--   signatureOffset, flagsOffset  where they stand
 --   signatureAt, flagsAt          the fields of pair i, as stored
 --   platformsAt                   the flags of pair i that count: bits 8 to 31 are ignored
 --   names                         the flags f name platform p, 0 to 7
@@ -20,9 +21,13 @@ use Rattle.bytes_dwords.specs.Dword.{dword}
 use Rattle.update_header.specs.Fields.{dataSize, entryCount}
 use Rattle.update_sizes.specs.Sizes.{entryOffset}
 use Rattle.update_header.specs.Checks.{headerOk, sizesFit}
+use Rattle.update_coverage.specs.declared.Pairs.{Pairs}
 
 unfoldable pub pairCount : List ℕ → ℕ
 pairCount s = unless (headerOk s) 0 (unless (sizesFit s) 0 (entryCount s + 1))
+
+unfoldable pub pairsOf : List ℕ → Pairs
+pairsOf s = record { «data» = dataSize s; count = pairCount s }
 
 -- where the two fields of pair i stand, behind d data bytes
 unfoldable pub signatureOffset : ℕ → ℕ → ℕ

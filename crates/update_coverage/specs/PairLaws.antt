@@ -2,9 +2,11 @@
 --   Paired, paired            what an update with pairs has passed
 --   pairs-made                how many pairs an update has that has passed it
 --   PairInside, pair-inside   the two fields of each pair lie inside the lent bytes, and there are at most 65 pairs
+--   data-is, count-is         the two numbers of a reading of the header
+--   reading, judged-few, judged-reading    a reading made of its two numbers; of an update that isn't judged again
 --   pairing                   the same and the count of pairs, as `search` takes them
 use Prim.Native.Nat.{ℕ, zero, suc, _+_, _<_, _≤_}
-use mathlib.Core.Path.{_≡_, refl, sym, _∙_}
+use mathlib.Core.Path.{_≡_, refl, sym, ap, _∙_}
 use mathlib.Core.Bool.{Bool, true, false}
 use mathlib.Core.List.{List}
 use native.Mathlib.Omega.{arith}
@@ -16,7 +18,8 @@ use Rattle.update_header.specs.Fields.{dataSize, totalSize, entryCount}
 use Rattle.update_sizes.specs.Sizes.{entryOffset}
 use Rattle.update_header.specs.Checks.{headerOk, sizesFit}
 use Rattle.update_header.specs.Inside.{inside, entry-count-is}
-use Rattle.update_coverage.specs.Covers.{pairCount, signatureOffset, flagsOffset}
+use Rattle.update_coverage.specs.Covers.{pairCount, pairsOf, signatureOffset, flagsOffset}
+use Rattle.update_coverage.specs.declared.Pairs.{Pairs}
 
 module _ (s : List ℕ) where
   -- what an update with pairs has passed
@@ -61,17 +64,41 @@ module _ (s : List ℕ) where
         few = omega (arith, y .sized .few, p .count);
       }
 
-  -- d is the local that holds the data's size
-  module _ (i : ℕ) (l : i < pairCount s) where
-    pub pair-few : i ≤ 64
-    pair-few = pair-inside i l .few
+  -- p is a reading of the header
+  module _ (p : Pairs) (e : p ≡ pairsOf s) where
+    pub data-is : p .data ≡ dataSize s
+    unfolding pairsOf
+    data-is = ap (λ (x : Pairs). x .data) e
 
-    module _ (d : ℕ) (e : d ≡ dataSize s) where
-      pub signature-inside : (r : ℕ) → r ≡ signatureOffset d i → r + 4 ≤ length s
-      signature-inside r q = let p = pair-inside i l in rw (q, e) (omega (arith, p .signature, p .lent))
+    pub count-is : p .count ≡ pairCount s
+    unfolding pairsOf
+    count-is = ap (λ (x : Pairs). x .count) e
 
-      pub flags-inside : (r : ℕ) → r ≡ flagsOffset d i → r + 4 ≤ length s
-      flags-inside r q = let p = pair-inside i l in rw (q, e) (omega (arith, p .flags, p .lent))
+    module _ (i : ℕ) (l : i < p .count) where
+      inside-pair : PairInside i
+      inside-pair = pair-inside i (omega (arith, count-is))
+
+      pub pair-few : i ≤ 64
+      pair-few = inside-pair .few
+
+      pub signature-inside : (r : ℕ) → r ≡ signatureOffset (p .data) i → r + 4 ≤ length s
+      signature-inside r q = let y = inside-pair in rw (q, data-is) (omega (arith, y .signature, y .lent))
+
+      pub flags-inside : (r : ℕ) → r ≡ flagsOffset (p .data) i → r + 4 ≤ length s
+      flags-inside r q = let y = inside-pair in rw (q, data-is) (omega (arith, y .flags, y .lent))
+
+  -- the reading, from its two numbers
+  pub reading : (d n : ℕ) → d ≡ dataSize s → n ≡ pairCount s → record { «data» = d; count = n } ≡ pairsOf s
+  unfolding pairsOf
+  reading d n e f = rw (e, f)
+
+  -- that of an update which isn't judged again: n is its number of entries
+  module _ (l : 0 < pairCount s) (n : ℕ) (e : n ≡ entryCount s) where
+    pub judged-few : n ≤ 64
+    judged-few = rw e (inside s (paired l .sizes) .sized .few)
+
+    pub judged-reading : (d : ℕ) → d ≡ dataSize s → record { «data» = d; count = n + 1 } ≡ pairsOf s
+    judged-reading d f = reading d (n + 1) f (rw e (sym (paired l .count)))
 
   -- the count of pairs, from what the two checks answered
   module _ (r : Bool) (e : r ≡ headerOk s) where

@@ -1,23 +1,29 @@
 // The processors that an update covers. Its pairs of a signature and flags are the header's (pair 0) and those of the entries (entry k is
-// pair k + 1). `d` is the number of data bytes, read before.
+// pair k + 1).
 pub mod platforms;
 
 ghost use mathlib.Core.Path.{_≡_};
 ghost use Prim.Native.Nat.{_≤_, _<_};
 ghost use Rattle.update_header.specs.Fields.{dataSize};
-ghost use Rattle.update_coverage.specs.Covers.{pairCount, signatureOffset, flagsOffset, signatureAt, platformsAt, names, pairCovers, coversAt, covers};
+ghost use Rattle.update_coverage.specs.Covers.{pairCount, pairsOf, signatureOffset, flagsOffset, signatureAt, platformsAt, names, pairCovers, coversAt, covers};
 use update_header::checks;
 use update_header::fields;
 use update_sizes::ENTRY;
 use update_sizes::HEADER;
 use update_sizes::TABLE_HEAD;
 
+// One reading of an update's header: the number of data bytes, behind which the entries stand, and that of the pairs.
+pub struct Pairs {
+    pub data: u32,
+    pub count: u32,
+}
+
 // How many pairs there are: none where check 2 or 3 of the write fails.
-pub fn pair_count(s: &[u8]) -> u32
+fn pair_count(s: &[u8], d: u32) -> u32
+    requires { ⌜ d ≡ dataSize (now s) ⌝ }
     ensures { λ r. ⌜ r ≡ pairCount (now (s .entry)) ⌝ }
 {
     if checks::header_ok(s) {
-        let d = fields::data_size(s);
         let t = fields::total_size(s);
         let n = fields::table_count(s, d);
         if checks::sizes_fit(s, d, t, n) {
@@ -27,6 +33,31 @@ pub fn pair_count(s: &[u8]) -> u32
         }
     } else {
         0
+    }
+}
+
+// The pairs of any bytes.
+pub fn pairs_of(s: &[u8]) -> Pairs
+    ensures { λ r. ⌜ r ≡ pairsOf (now (s .entry)) ⌝ }
+{
+    let data = fields::data_size(s);
+    Pairs {
+        data,
+        count: pair_count(s, data),
+    }
+}
+
+// The pairs of an update that has passed checks 2 and 3: it isn't judged again.
+pub fn judged_pairs(s: &[u8]) -> Pairs
+    requires { ⌜ 0 < pairCount (now s) ⌝ }
+    ensures { λ r. ⌜ r ≡ pairsOf (now (s .entry)) ⌝ }
+{
+    let data = fields::data_size(s);
+    let t = fields::total_size(s);
+    let n = fields::table_count(s, data);
+    Pairs {
+        data,
+        count: update_sizes::entries_of(data, t, n) + 1,
     }
 }
 
@@ -52,19 +83,19 @@ fn flags_offset(d: u32, i: u32) -> usize
     }
 }
 
-pub fn signature_at(s: &[u8], d: u32, i: u32) -> u32
-    requires { ⌜ (d ≡ dataSize (now s)) × (i < pairCount (now s)) ⌝ }
+pub fn signature_at(s: &[u8], pairs: Pairs, i: u32) -> u32
+    requires { ⌜ (pairs ≡ pairsOf (now s)) × (i < pairs .count) ⌝ }
     ensures { λ r. ⌜ r ≡ signatureAt (now (s .entry)) i ⌝ }
 {
-    bytes_dwords::dword_inside(s, signature_offset(d, i))
+    bytes_dwords::dword_inside(s, signature_offset(pairs.data, i))
 }
 
 // The flags that count: bits 8 to 31 are ignored.
-pub fn platforms_at(s: &[u8], d: u32, i: u32) -> u8
-    requires { ⌜ (d ≡ dataSize (now s)) × (i < pairCount (now s)) ⌝ }
+pub fn platforms_at(s: &[u8], pairs: Pairs, i: u32) -> u8
+    requires { ⌜ (pairs ≡ pairsOf (now s)) × (i < pairs .count) ⌝ }
     ensures { λ r. ⌜ r ≡ platformsAt (now (s .entry)) i ⌝ }
 {
-    (bytes_dwords::dword_inside(s, flags_offset(d, i)) % 256) as u8
+    (bytes_dwords::dword_inside(s, flags_offset(pairs.data, i)) % 256) as u8
 }
 
 fn names(f: u8, platform: u32) -> bool
@@ -87,26 +118,26 @@ fn pair_covers(signature: u32, f: u8, x: u32, platform: u32) -> bool
     }
 }
 
-fn covers_at(u: &[u8], d: u32, i: u32, signature: u32, platform: u32) -> bool
-    requires { ⌜ (d ≡ dataSize (now u)) × (i < pairCount (now u)) ⌝ }
+fn covers_at(u: &[u8], pairs: Pairs, i: u32, signature: u32, platform: u32) -> bool
+    requires { ⌜ (pairs ≡ pairsOf (now u)) × (i < pairs .count) ⌝ }
     ensures { λ r. ⌜ r ≡ coversAt (now (u .entry)) signature platform i ⌝ }
 {
     pair_covers(
-        signature_at(u, d, i),
-        platforms_at(u, d, i),
+        signature_at(u, pairs, i),
+        platforms_at(u, pairs, i),
         signature,
         platform,
     )
 }
 
-// Does the update cover the processor? `n` is the number of its pairs.
-pub fn covers_with(u: &[u8], d: u32, n: u32, signature: u32, platform: u32) -> bool
-    requires { ⌜ (d ≡ dataSize (now u)) × (n ≡ pairCount (now u)) ⌝ }
+// Does the update with these pairs cover the processor?
+pub fn covers_with(u: &[u8], pairs: Pairs, signature: u32, platform: u32) -> bool
+    requires { ⌜ pairs ≡ pairsOf (now u) ⌝ }
     ensures { λ r. ⌜ r ≡ covers (now (u .entry)) signature platform ⌝ }
 {
     let mut i: u32 = 0;
-    while i < n {
-        if covers_at(u, d, i, signature, platform) {
+    while i < pairs.count {
+        if covers_at(u, pairs, i, signature, platform) {
             return true;
         }
         i += 1;
@@ -117,5 +148,5 @@ pub fn covers_with(u: &[u8], d: u32, n: u32, signature: u32, platform: u32) -> b
 pub fn covers(u: &[u8], signature: u32, platform: u32) -> bool
     ensures { λ r. ⌜ r ≡ covers (now (u .entry)) signature platform ⌝ }
 {
-    covers_with(u, fields::data_size(u), pair_count(u), signature, platform)
+    covers_with(u, pairs_of(u), signature, platform)
 }

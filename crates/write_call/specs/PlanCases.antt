@@ -1,5 +1,5 @@
--- The order of checks 1 to 5, a return at each, as `search` takes them.
---   good-absent, good-marked   check 5
+-- The order of checks 1 to 6, a return at each, as `search` takes them.
+--   good-absent, good-outdated, good-marked   checks 5 and 6
 --   plans                      checks 1 to 4
 use Prim.Native.Nat.{ℕ}
 use mathlib.Core.Path.{_≡_, _∙_}
@@ -22,32 +22,37 @@ use Rattle.write_marks.specs.StoredMarks.{storedOf, marksOf}
 use Rattle.laws.specs.Arrays.{markAt}
 use Rattle.write_marks.specs.declared.Marked.{Marked}
 use Rattle.processor_list.specs.Processors.{ProcessorList, listOk}
-use Rattle.call_answers.specs.Codes.{READ-FAILURE, CPU-NOT-PRESENT, none, bad-store, bad-processors}
+use Rattle.call_answers.specs.Codes.{READ-FAILURE, CPU-NOT-PRESENT, INVALID-REVISION, none, bad-store, bad-processors}
 use Rattle.write_plan.specs.VerdictCode.{verdictAh}
 use Rattle.write_plan.specs.declared.Plan.{Plan}
 use Rattle.write_plan.specs.declared.Plan.the-variants.{Refuse}
 use Rattle.processor_list.specs.Covered.{Covered, one-is}
-use Rattle.write_plan.specs.CandidateMarks.{storedUpdates}
+use Rattle.write_plan.specs.CandidateMarks.{storedUpdates, outdated}
 use Rattle.write_plan.specs.RightMarks.{Marks}
 use Rattle.write_plan.specs.CandidateMarkLaws.{stored-same}
 use Rattle.write_plan.specs.Plan.{markedPlan}
 use Rattle.write_call.specs.Write.{goodPlan, judgedPlan, writePlan}
 
--- check 5: r is what the test of the candidate's marks answered
+-- checks 5 and 6: r is what the test of the candidate's marks answered, o that of the revisions
 module _ (old : List ℕ) (list : ProcessorList) (cand : List ℕ) (k : ℕ) (marks : List Bool) (r : Bool) (right : Covered list cand marks)
     (e : r ≡ anyBelow (length (list .signatures)) (markAt marks)) where
   pub good-absent : r ≡ false → Refuse CPU-NOT-PRESENT none ≡ goodPlan old list cand k
   unfolding goodPlan unless
   good-absent h = rw (← one-is list cand marks right r e, h)
 
-  pub good-marked : r ≡ true → (m : Marked) → Marks old list cand m
-      → (z : Plan) → z ≡ markedPlan old cand (storedOf (marksOf (m .starts) (m .sizes) (m .shares) (m .needed) (m .count))) k → z ≡ goodPlan old list cand k
-  unfolding goodPlan unless
-  good-marked h m y z q =
-      let a = stored-same old list cand m y in
-      let g = storedUpdates old list cand in
-      rw (← one-is list cand marks right r e, h)
-      (q ∙ rw (both-marks-same (storedOf m) g a, choose-same (storedOf m) g a (blockCount old) k, placed-same (storedOf m) g (choose (blockCount old) k g) a))
+  module _ (h : r ≡ true) (o : Bool) (f : o ≡ outdated old cand) where
+    pub good-outdated : o ≡ true → Refuse INVALID-REVISION none ≡ goodPlan old list cand k
+    unfolding goodPlan unless
+    good-outdated w = rw (← one-is list cand marks right r e, h, ← f, w)
+
+    pub good-marked : o ≡ false → (m : Marked) → Marks old list cand m
+        → (z : Plan) → z ≡ markedPlan (blockCount old) (storedOf (marksOf (m .starts) (m .sizes) (m .shares) (m .needed) (m .count))) k → z ≡ goodPlan old list cand k
+    unfolding goodPlan unless
+    good-marked w m y z q =
+        let a = stored-same old list cand m y in
+        let g = storedUpdates old list cand in
+        rw (← one-is list cand marks right r e, h, ← f, w)
+        (q ∙ rw (both-marks-same (storedOf m) g a, choose-same (storedOf m) g a (blockCount old) k, placed-same (storedOf m) g (choose (blockCount old) k g) a))
 
 -- d is the directory that was read, l what the list's rule answered, v the verdict
 module _ (old : List ℕ) (list : ProcessorList) (cand : List ℕ) (d : Directory) (e : d ≡ directory old) where

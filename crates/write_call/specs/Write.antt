@@ -10,7 +10,7 @@
 --   bytesAfter      the store after a plan and check 9
 --   writeBytes      the store afterwards: the outcome's bytes, or the old ones on a refusal
 use Prim.Native.Nat.{ℕ, _+_}
-use mathlib.Core.Bool.{Bool, false, _&&_, _||_}
+use mathlib.Core.Bool.{Bool, false, not, _&&_, _||_}
 use mathlib.Core.List.{List}
 use lib.Dec.{ltb, eqb}
 use Rattle.laws.specs.Unless.{unless}
@@ -20,15 +20,15 @@ use Rattle.update_verdict.specs.Verdict.{verdict}
 use Rattle.update_sharing.specs.Shares.{shares}
 use Rattle.update_verdict.specs.declared.Verdict.{Verdict}
 use Rattle.update_verdict.specs.declared.Verdict.the-variants.{Good, BadHeader, BadSum}
-use Rattle.store_blocks.specs.Blocks.{fromBlock}
+use Rattle.store_blocks.specs.Blocks.{fromBlock, blockCount}
 use Rattle.store_directory.specs.Scan.{sizeAt, storeOk}
 use Rattle.processor_list.specs.Processors.{ProcessorList, listOk, coversOne}
 use Rattle.write_outcome.specs.OutcomeBytes.{outcomeBytes}
-use Rattle.call_answers.specs.Codes.{SUCCESS, READ-FAILURE, CPU-NOT-PRESENT, SECURITY-FAILURE, none, bad-store, bad-processors}
+use Rattle.call_answers.specs.Codes.{SUCCESS, READ-FAILURE, CPU-NOT-PRESENT, INVALID-REVISION, SECURITY-FAILURE, none, bad-store, bad-processors}
 use Rattle.call_answers.specs.Answers.{refusal}
 use Rattle.call_answers.specs.declared.answer.Answer.{Answer}
 use Rattle.call_answers.specs.declared.answer.Answer.the-variants.{Written}
-use Rattle.write_plan.specs.CandidateMarks.{storedUpdates}
+use Rattle.write_plan.specs.CandidateMarks.{storedUpdates, outdated}
 use Rattle.write_plan.specs.Plan.{markedPlan}
 use Rattle.write_plan.specs.VerdictCode.{verdictAh}
 use Rattle.write_plan.specs.declared.Plan.{Plan}
@@ -38,7 +38,8 @@ use Rattle.write_plan.specs.declared.Plan.the-variants.{Run, Refuse}
 unfoldable pub goodPlan : List ℕ → ProcessorList → List ℕ → ℕ → Plan
 goodPlan old list cand k =
     unless (coversOne list cand) (Refuse CPU-NOT-PRESENT none)
-    (markedPlan old cand (storedUpdates old list cand) k)
+    (unless (not (outdated old cand)) (Refuse INVALID-REVISION none)
+    (markedPlan (blockCount old) (storedUpdates old list cand) k))
 
 -- checks 2 to 8
 unfoldable pub judgedPlan : List ℕ → ProcessorList → List ℕ → Verdict → Plan

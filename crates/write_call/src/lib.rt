@@ -10,19 +10,28 @@ ghost use Rattle.write_outcome.specs.OutcomeBytes.{outcomeBytes};
 ghost use Rattle.write_call.specs.Write.{emptiedAt, goodPlan, writePlan, answered, writeAnswer, bytesAfter, writeBytes};
 ghost use Rattle.write_call.specs.Demand.{Passes, Demand3};
 ghost use Rattle.write_call.specs.Storing.{Storing, Storable};
+ghost use Rattle.write_call.specs.CandidateSizes.{sizesOf};
 use call_answers::answer;
 use call_answers::answer::Answer;
 use call_answers::answer::Written;
 use call_answers::code;
 use store_blocks::MOST_BLOCKS;
 use store_directory::Directory;
+use update_coverage::Pairs;
 use update_header::fields;
 use update_verdict::Verdict;
 use write_outcome::bytes;
 use write_plan::Plan;
 use write_plan::marks;
 
-// Empties all sharing updates, wherever they lie, and all that the run touches, and puts the candidate at the start.
+// What the verdict found of a good candidate, so that nothing of it is judged or read twice: T, its blocks, and its pairs.
+pub struct Sizes {
+    pub total: u32,
+    pub blocks: u32,
+    pub pairs: Pairs,
+}
+
+// Empties all sharing updates, wherever they lie, and all that the run touches, and puts the candidate of `t` bytes at the start.
 fn store_candidate<'a>(
     store: &mut [u8],
     starts: &'a [u8; MOST_BLOCKS],
@@ -31,12 +40,13 @@ fn store_candidate<'a>(
     count: usize,
     start: u32,
     candidate: &[u8],
+    t: u32,
 )
-    requires { ⌜ Storing (now store) (now candidate) (marksOf (now starts) (now sizes) (now shares) [] count) start ⌝ }
+    requires { ⌜ Storing (now store) (now candidate) (marksOf (now starts) (now sizes) (now shares) [] count) start ×
+        (t ≡ totalSize (now candidate)) ⌝ }
     ensures { λ _. ⌜ now (store .exit) ≡ outcomeBytes (now (store .entry)) (totalSize (now (candidate .entry)))
         (now (candidate .entry)) start (emptiedAt (now (store .entry)) (now (candidate .entry)) start) ⌝ }
 {
-    let t = fields::total_size(candidate);
     let k = update_sizes::blocks_of(t);
     let gone = write_marks::to_fill(starts, sizes, shares, count, k, start);
     bytes::write_bytes(
@@ -60,9 +70,11 @@ fn finish<'a>(
     count: usize,
     plan: Plan,
     candidate: &[u8],
+    t: u32,
     back: u32,
 ) -> Answer
-    requires { ⌜ Storable (now store) (now candidate) (marksOf (now starts) (now sizes) (now shares) [] count) plan ⌝ }
+    requires { ⌜ Storable (now store) (now candidate) (marksOf (now starts) (now sizes) (now shares) [] count) plan ×
+        (t ≡ totalSize (now candidate)) ⌝ }
     ensures answers { λ r. ⌜ r ≡ answered back (revision (now (candidate .entry))) plan ⌝ }
     ensures stores { λ r. ⌜ now (store .exit) ≡ bytesAfter (now (store .entry)) (now (candidate .entry)) back plan ⌝ }
 {
@@ -70,7 +82,7 @@ fn finish<'a>(
         Plan::Run { start, emptied } => {
             let revision = fields::revision(candidate);
             if back == revision {
-                store_candidate(store, starts, sizes, shares, count, start, candidate);
+                store_candidate(store, starts, sizes, shares, count, start, candidate, t);
                 Answer::Written(Written {
                     ah: code::SUCCESS,
                     al: code::NONE,
@@ -86,28 +98,34 @@ fn finish<'a>(
     }
 }
 
-// Checks 5 to 9 and the bytes, for a candidate of `k` blocks that passes checks 2 to 4.
+// Checks 5 to 9 and the bytes, for a candidate that passes checks 2 to 4.
 fn write_good(
     store: &mut [u8],
     d: Directory,
     signatures: &[u32],
     platforms: &[u8],
     candidate: &[u8],
+    sizes: Sizes,
     back: u32,
-    k: u32,
 ) -> Answer
-    requires { ⌜ (d ≡ directory (now store)) × (d .ok ≡ true) × (listOk (listOf (now signatures) (now platforms)) ≡ true) ⌝ }
+    requires { ⌜ (d ≡ directory (now store)) × (d .ok ≡ true) × (listOk (listOf (now signatures) (now platforms)) ≡ true) ×
+        (sizes ≡ sizesOf (now candidate)) ⌝ }
     requires { ⌜ (let list = listOf (now signatures) (now platforms) in
-        goodPlan (now store) list (now candidate) k ≡ writePlan (now store) list (now candidate)) ⌝ }
+        goodPlan (now store) list (now candidate) (sizes .blocks) ≡ writePlan (now store) list (now candidate)) ⌝ }
     ensures answers { λ r. ⌜ (let list = listOf (now (signatures .entry)) (now (platforms .entry)) in
-        r ≡ answered back (revision (now (candidate .entry))) (goodPlan (now (store .entry)) list (now (candidate .entry)) k)) ⌝ }
+        r ≡ answered back (revision (now (candidate .entry))) (goodPlan (now (store .entry)) list (now (candidate .entry))
+        (sizes .blocks))) ⌝ }
     ensures stores { λ r. ⌜ (let list = listOf (now (signatures .entry)) (now (platforms .entry)) in
         let old = now (store .entry) in
-        now (store .exit) ≡ bytesAfter old (now (candidate .entry)) back (goodPlan old list (now (candidate .entry)) k)) ⌝ }
+        now (store .exit) ≡ bytesAfter old (now (candidate .entry)) back (goodPlan old list (now (candidate .entry)) (sizes .blocks))) ⌝ }
 {
-    let covered = processor_list::covered(signatures, platforms, candidate);
+    let pairs = sizes.pairs;
+    let covered = processor_list::covered(signatures, platforms, candidate, pairs);
     if processor_list::covers_one(covered, signatures.len()) {
-        let m = marks::mark(store, d, signatures, platforms, covered, candidate);
+        if marks::outdated(store, d, candidate, pairs) {
+            return answer::refuse(code::INVALID_REVISION, code::NONE);
+        }
+        let m = marks::mark(store, d, signatures, platforms, covered, candidate, pairs);
         let count = m.count;
         let plan = write_plan::plan_marked(
             store,
@@ -116,8 +134,7 @@ fn write_good(
             &m.shares,
             &m.needed,
             count,
-            candidate,
-            k,
+            sizes.blocks,
         );
         finish(
             store,
@@ -127,6 +144,7 @@ fn write_good(
             count,
             plan,
             candidate,
+            sizes.total,
             back,
         )
     } else {
@@ -160,11 +178,22 @@ pub fn write(
                 Verdict::BadHeader => answer::refuse(code::INVALID_HEADER, code::NONE),
                 Verdict::BadSum => answer::refuse(code::INVALID_HEADER_CS, code::NONE),
                 Verdict::Good {
-                    total: _,
-                    data: _,
-                    entries: _,
+                    total,
+                    data,
+                    entries,
                     blocks,
-                } => write_good(store, d, signatures, platforms, candidate, back, blocks),
+                } => {
+                    let pairs = Pairs {
+                        data,
+                        count: entries + 1,
+                    };
+                    let sizes = Sizes {
+                        total,
+                        blocks,
+                        pairs,
+                    };
+                    write_good(store, d, signatures, platforms, candidate, sizes, back)
+                }
             }
         } else {
             answer::refuse(code::READ_FAILURE, code::BAD_PROCESSORS)

@@ -48,8 +48,8 @@ marks-made old list cand d i xs ys e few a b l m =
       needed = filled-all false 32 (neededEntry old list cand) ys i (d .count) b l m;
     }
 
--- check 6: u is the part at the start of entry i, v its revision as a call read it, and new the candidate's
-module _ (old cand starts u : List ℕ) (i new v : ℕ) (e : starts ≡ directory old .starts) (part : u ≡ fromBlock old (getD starts i 0)) (w : v ≡ revision u) (g : new ≡ revision cand) where
+-- check 6: d is the directory, u the part at the start of entry i, v its revision as a call read it, and new the candidate's
+module _ (old cand u : List ℕ) (d : Directory) (i new v : ℕ) (e : d ≡ directory old) (part : u ≡ fromBlock old (getD (d .starts) i 0)) (w : v ≡ revision u) (g : new ≡ revision cand) where
   outdates-is : shares u cand && leb new v ≡ outdates old cand i
   unfolding outdates sharesEntry
   outdates-is = rw (w, part, e, g)
@@ -65,13 +65,13 @@ module _ (old cand starts u : List ℕ) (i new v : ℕ) (e : starts ≡ director
       any-more (outdates old cand) i k (sym outdates-is ∙ rw (← scan-done (rows (pairCount cand) (sharesAt u cand)) j m (pairCount u) q a b h))
 
   -- the way out: a pair of it shares
-  pub outdate-stop : (count : ℕ) → count ≡ directory old .count → i < count → new ≤ v → true ≡ shares u cand → true ≡ outdated old cand
+  pub outdate-stop : i < d .count → new ≤ v → true ≡ shares u cand → true ≡ outdated old cand
   unfolding outdated
-  outdate-stop count q l a h = sym (any-stop (outdates old cand) (directory old .count) i (rw q at l) (sym outdates-is ∙ rw (← h, le-leb new v a)))
+  outdate-stop l a h = sym (any-stop (outdates old cand) (directory old .count) i (rw e at l) (sym outdates-is ∙ rw (← h, le-leb new v a)))
 
-pub outdate-done : (old cand : List ℕ) (count i : ℕ) (found : Bool) → count ≡ directory old .count → found ≡ false → anyBelow i (outdates old cand) ≡ false → i ≤ count → count ≤ i → found ≡ outdated old cand
+pub outdate-done : (old cand : List ℕ) (d : Directory) (i : ℕ) (found : Bool) → d ≡ directory old → found ≡ false → anyBelow i (outdates old cand) ≡ false → i ≤ d .count → d .count ≤ i → found ≡ outdated old cand
 unfolding outdated
-outdate-done old cand count i found q f h a b = scan-unset (outdates old cand) i found count (directory old .count) f q a b h
+outdate-done old cand d i found e f h a b = scan-unset (outdates old cand) i found (d .count) (directory old .count) f (rw e) a b h
 
 pub stored-same : (old : List ℕ) (list : ProcessorList) (cand : List ℕ) (m : Marked) → Marks old list cand m → Agree (storedOf m) (storedUpdates old list cand)
 unfolding storedOf storedUpdates

@@ -1,18 +1,15 @@
--- Checks 6 to 8 as the code takes them.
+-- Checks 7 and 8 as the code takes them.
 --   placing    by cases of the choice, as `search` takes them
 --   place-few  the emptied count is at most 64, so the code's sum can't overflow
 --   placed-same    it goes by the starts, sizes and marks alone
---   marked-outdated, marked-both, marked-placed    checks 6 to 8, a return at each
-use Prim.Native.Nat.{ℕ, suc, _+_, _-_, _/_, _≤_}
+--   marked-both, marked-placed    checks 7 and 8, a return at each
+use Prim.Native.Nat.{ℕ, suc, _+_, _-_, _≤_}
 use mathlib.Core.Path.{_≡_, refl, sym, _∙_, subst}
 use mathlib.Core.Bool.{Bool, true, false}
-use mathlib.Core.List.{List}
 use native.Mathlib.Omega.{arith}
-use lib.ListN.{length}
 use Rattle.laws.specs.Orders.{impossible}
 use Rattle.laws.specs.Below.{anyBelow}
 use Rattle.laws.specs.Unless.{unless}
-use Rattle.store_blocks.specs.Blocks.{blockCount}
 use Rattle.write_placement.specs.Agree.{Agree, shared-same}
 use Rattle.laws.specs.Count.{countBelow, count-most}
 use Rattle.laws.specs.Least.{Pick, nowhere, at, IsLeast, Promised, least-promised}
@@ -25,10 +22,9 @@ use Rattle.laws.specs.Arrays.{markAt}
 use Rattle.write_marks.specs.declared.Marked.{Marked}
 use Rattle.write_placement.specs.declared.Choice.{Choice}
 use Rattle.write_placement.specs.declared.Choice.the-variants.{At, Nowhere}
-use Rattle.call_answers.specs.Codes.{STORAGE-FULL, INVALID-REVISION, none, sharing-needed, no-run}
+use Rattle.call_answers.specs.Codes.{STORAGE-FULL, sharing-needed, no-run}
 use Rattle.write_plan.specs.declared.Plan.{Plan}
 use Rattle.write_plan.specs.declared.Plan.the-variants.{Run, Refuse}
-use Rattle.write_plan.specs.CandidateMarks.{outdated}
 use Rattle.write_plan.specs.Plan.{placed, markedPlan}
 
 choose-most : (h : StoredUpdates) (n k s c : ℕ) → choose n k h ≡ at s c → c ≤ h .count
@@ -73,20 +69,15 @@ unfolding placed
 placed-same g h nowhere a = refl
 placed-same g h (at s c) a = rw (shared-same g h a)
 
--- checks 6 to 8: o is what the test of the revisions answered, t that of the marks
-module _ (old cand : List ℕ) (m : Marked) (k : ℕ) (o : Bool) (f : o ≡ outdated old cand) where
-  pub marked-outdated : o ≡ true → Refuse INVALID-REVISION none ≡ markedPlan old cand (storedOf m) k
+-- checks 7 and 8: t is what the test of the marks answered
+module _ (m : Marked) (n k : ℕ) (t : Bool) (g : t ≡ anyBelow (m .count) (bothAt (m .shares) (m .needed))) where
+  both-is : t ≡ anyBelow (storedOf m .count) (bothMarks (storedOf m))
+  both-is = both-marks-is m t g
+
+  pub marked-both : t ≡ true → Refuse STORAGE-FULL sharing-needed ≡ markedPlan n (storedOf m) k
   unfolding unless
-  marked-outdated h = rw (← f, h)
+  marked-both h = rw (← both-is, h)
 
-  module _ (newer : o ≡ false) (t : Bool) (g : t ≡ anyBelow (m .count) (bothAt (m .shares) (m .needed))) where
-    both-is : t ≡ anyBelow (storedOf m .count) (bothMarks (storedOf m))
-    both-is = both-marks-is m t g
-
-    pub marked-both : t ≡ true → Refuse STORAGE-FULL sharing-needed ≡ markedPlan old cand (storedOf m) k
-    unfolding unless
-    marked-both h = rw (← f, newer, ← both-is, h)
-
-    pub marked-placed : (z : Plan) → t ≡ false → z ≡ placed (storedOf m) (choose (length old / 2048) k (storedOf m)) → z ≡ markedPlan old cand (storedOf m) k
-    unfolding unless blockCount
-    marked-placed z h q = rw (← f, newer, ← both-is, h) q
+  pub marked-placed : (z : Plan) → t ≡ false → z ≡ placed (storedOf m) (choose n k (storedOf m)) → z ≡ markedPlan n (storedOf m) k
+  unfolding unless
+  marked-placed z h q = rw (← both-is, h) q

@@ -1,4 +1,4 @@
-// Checks 6 to 8 of the write, and the run that they choose. No byte changes.
+// Checks 6 to 8 of the write, and the run that they choose: check 6 and the marks, then checks 7 and 8 by the marks. No byte changes.
 pub mod marks;
 
 ghost use mathlib.Core.Path.{_≡_};
@@ -6,8 +6,8 @@ ghost use Prim.Native.Nat.{_/_, _≤_};
 ghost use lib.ListN.{length};
 ghost use Rattle.write_marks.specs.StoredMarks.{storedOf, marksOf};
 ghost use Rattle.write_placement.specs.Choose.{choose};
-ghost use Rattle.write_plan.specs.RightMarks.{Shared};
 ghost use Rattle.write_plan.specs.Plan.{placed, markedPlan};
+ghost use Rattle.store_blocks.specs.Blocks.{blockCount};
 use call_answers::code;
 use store_blocks::MOST_BLOCKS;
 use write_placement::Choice;
@@ -48,7 +48,7 @@ fn place<'a>(
     }
 }
 
-// Checks 6 to 8, for a candidate of `k` blocks. The stored updates are lent by their starts, sizes and marks.
+// Checks 7 and 8, for a candidate of `k` blocks. The stored updates are lent by their starts, sizes and marks.
 pub fn plan_marked<'a>(
     store: &[u8],
     starts: &'a [u8; MOST_BLOCKS],
@@ -56,19 +56,12 @@ pub fn plan_marked<'a>(
     shares: &'a [bool; MOST_BLOCKS],
     needed: &'a [bool; MOST_BLOCKS],
     count: usize,
-    candidate: &[u8],
     k: u32,
 ) -> Plan
-    requires { ⌜ Shared (now store) (now candidate) (now starts) (now shares) count × (length (now store) / 2048 ≤ 32) ⌝ }
-    ensures { λ r. ⌜ r ≡ markedPlan (now (store .entry)) (now (candidate .entry)) (storedOf (marksOf (now (starts .entry))
+    requires { ⌜ (count ≤ 32) × (length (now store) / 2048 ≤ 32) ⌝ }
+    ensures { λ r. ⌜ r ≡ markedPlan (blockCount (now (store .entry))) (storedOf (marksOf (now (starts .entry))
         (now (sizes .entry)) (now (shares .entry)) (now (needed .entry)) count)) k ⌝ }
 {
-    if marks::outdated(store, starts, count, candidate) {
-        return Plan::Refuse {
-            ah: code::INVALID_REVISION,
-            al: code::NONE,
-        };
-    }
     if write_marks::both_marks(shares, needed, count) {
         return Plan::Refuse {
             ah: code::STORAGE_FULL,

@@ -10,10 +10,10 @@ use Rattle.processor_list.proofs.covered.Statement.{statement}
 use Rattle.processor_list.proofs.covered.Tie as tie
 
 abbrev Inv-loop : tie.InvT-loop
-Inv-loop signatures platforms candidate d n marks₀ i₀ marks i = (i ≤ length signatures) × Filled false 8 (coversListed (listOf signatures platforms) candidate) i marks
+Inv-loop signatures platforms candidate pairs marks₀ i₀ marks i = (i ≤ length signatures) × Filled false 8 (coversListed (listOf signatures platforms) candidate) i marks
 
 abbrev μ-loop : tie.MeasureT-loop
-μ-loop signatures platforms candidate d n marks₀ i₀ marks i = length signatures - i
+μ-loop signatures platforms candidate pairs marks₀ i₀ marks i = length signatures - i
 
 loop-again : tie.Need-loop-again Inv-loop μ-loop
 loop-again c = (omega arith, filled-more _ _ _ _ _ _ (c .before .before .loop .inv .1) (omega arith) (c .covers-listed .ensures))
@@ -24,8 +24,6 @@ covered-spec =
     (tie.spec
     Inv-loop
     μ-loop
-    (search needs)
-    (search needs)
     (λ c. search (needs, filling))
     (λ c κs. search needs)
     (λ c. search needs)

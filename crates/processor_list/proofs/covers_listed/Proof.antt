@@ -13,5 +13,5 @@ covers-listed-spec =
     (λ c. c .before .before .before .before .pre .0)
     (λ c. c .before .before .before .before .before .pre .1)
     (search needs)
-    (search needs)
+    (λ c κs. c .before .before .before .before .before .before .pre .2)
     (λ c. rw (c .before .wide .ensures .0) at (c .covers-with .ensures)))

@@ -13,10 +13,10 @@ use Rattle.processor_list.proofs.is_needed.Statement.{statement}
 use Rattle.processor_list.proofs.is_needed.Tie as tie
 
 abbrev Inv-loop : tie.InvT-loop
-Inv-loop signatures platforms u d n marks i₀ i = (i ≤ length signatures) × (anyBelow i (neededByMarks (listOf signatures platforms) marks u) ≡ false)
+Inv-loop signatures platforms u pairs marks i₀ i = (i ≤ length signatures) × (anyBelow i (neededByMarks (listOf signatures platforms) marks u) ≡ false)
 
 abbrev μ-loop : tie.MeasureT-loop
-μ-loop signatures platforms u d n marks i₀ i = length signatures - i
+μ-loop signatures platforms u pairs marks i₀ i = length signatures - i
 
 pub is-needed-spec : {M : Type 1} → statement M
 unfolding neededByMarks markAt

@@ -5,6 +5,7 @@ use native.Mathlib.Omega.{arith}
 use lib.ListN.{length}
 use Rattle.store_blocks.specs.LengthLaws.{length-few}
 use Rattle.store_directory.specs.StoreLaws.{scanned-few, store-bad, store-clash, store-good, store-length}
+use Rattle.store_directory.specs.PairedLaws.{scanned-pairs}
 use Rattle.store_directory.specs.declared.Directory.{Directory}
 use borrow.Author.Needs.{needs}
 use Rattle.store_directory.proofs.read_store.Statement.{statement}
@@ -17,7 +18,7 @@ clash-requires : tie.Need-clash-requires
 clash-requires c κs = let d = c .before .before in
     let n = d .before .before .before .before .args .s .now in
     let k : length n / 2048 ≤ 32 = length-few _ (sym (d .before .before .length-ok .ensures) ∙ d .before .if1 .taken) in
-    omega (arith, scanned-few n (length n / 2048), ap (λ (x : Directory). x .count) (d .scan .ensures))
+    (omega (arith, scanned-few n (length n / 2048), ap (λ (x : Directory). x .count) (d .scan .ensures)), scanned-pairs n _ (d .scan .ensures) (sym (d .before .before .length-ok .ensures) ∙ d .before .if1 .taken) (c .before .if2 .taken))
 
 returns : tie.Need-returns
 returns c = c .bad-store .ensures ∙ (let d = c .before .before .before .before .before in store-clash _ (d .scan .result) (d .scan .ensures) (sym (d .before .before .length-ok .ensures) ∙ d .before .if1 .taken) (c .before .before .before .before .if2 .taken) (sym (c .before .before .clash .ensures) ∙ c .before .if3 .taken))

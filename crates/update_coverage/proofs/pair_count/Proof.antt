@@ -11,9 +11,8 @@ pair-count-spec =
     (tie.spec
     (λ c κs. tt)
     (λ c κs. tt)
-    (λ c κs. tt)
-    (λ c κs. c .before .data-size .ensures)
-    (λ c κs. (c .before .before .data-size .ensures, c .before .total-size .ensures, c .table-count .ensures))
+    (λ c κs. c .before .before .before .before .pre)
+    (λ c κs. (c .before .before .before .before .before .pre, c .before .total-size .ensures, c .table-count .ensures))
     (λ c κs. tt)
     (λ c. let l : c .entries-of .result ≤ 64 = search pairing in omega arith)
     (λ c. search pairing)

@@ -1,6 +1,6 @@
 -- `update_coverage::signature_at` meets its contract: each pair lies inside.
 use Rattle.update_coverage.specs.Covers.{signatureAt}
-use Rattle.update_coverage.specs.PairLaws.{pairing}
+use Rattle.update_coverage.specs.PairLaws.{data-is, pairing}
 use Rattle.update_coverage.proofs.signature_at.Statement.{statement}
 use Rattle.update_coverage.proofs.signature_at.Tie as tie
 
@@ -11,4 +11,4 @@ signature-at-spec =
     (tie.spec
     (λ c κs. search pairing)
     (λ c κs. search pairing)
-    (λ c. rw (c .dword-inside .ensures, c .before .signature-offset .ensures, c .before .before .before .pre .0)))
+    (λ c. rw (c .dword-inside .ensures, c .before .signature-offset .ensures, data-is _ _ (c .before .before .before .pre .0))))

@@ -11,7 +11,7 @@ finish-spec =
     (tie.spec
     (λ c. omega arith)
     (λ c κs. tt)
-    (λ c κs. search storing)
+    (λ c κs. let y = c .before .before .before .before .before .before .before .before .pre in (search storing, y .1))
     (λ c κs. tt)
     (λ c. omega arith)
     (λ c κs. tt)

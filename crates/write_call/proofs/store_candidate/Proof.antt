@@ -9,14 +9,11 @@ store-candidate-spec =
     tie.close
     (tie.spec
     (λ c κs. tt)
-    (λ c κs. tt)
-    (λ c κs. omega arith)
-    (λ c. omega arith)
+    (λ c κs. c .before .before .before .pre .0 .shared .few)
     (λ c κs.
-    let y = c .before .before .before .before .before .before .pre in
-    let t = c .before .before .before .total-size .ensures in
-    (entries-for _ _ _ _ y, (whole-lent _ _ _ _ y _ t, run-inside _ _ _ _ y _ t)))
+    let y = c .before .before .before .before .before .pre in
+    (entries-for _ _ _ _ (y .0), (whole-lent _ _ _ _ (y .0) _ (y .1), run-inside _ _ _ _ (y .0) _ (y .1))))
     (λ c. omega arith)
     (λ c.
-    let at = c .before .before .before .before .before .before in
-    stored-bytes _ _ _ _ (at .before .before .before .pre) _ _ _ _ (at .total-size .ensures) (c .before .before .before .before .before .blocks-of .ensures) (c .before .before .before .before .to-fill .ensures) (c .before .before .write-bytes .ensures)))
+    let y = c .before .before .before .before .before .before .before .before .pre in
+    stored-bytes _ _ _ _ (y .0) _ _ _ _ (y .1) (c .before .before .before .before .before .blocks-of .ensures) (c .before .before .before .before .to-fill .ensures) (c .before .before .write-bytes .ensures)))

@@ -1,6 +1,8 @@
 -- `write_call::write` meets its contract: checks 1 to 4, each with its refusal, then the rest. Demand 3 follows from the two equations.
+use Prim.Native.Nat.{_≤_}
 use native.Mathlib.Omega.{arith}
 use Rattle.processor_list.specs.ListLaws.{list-right}
+use Rattle.write_call.specs.CandidateSizeLaws.{entries-few, good-sizes}
 use Rattle.write_call.specs.PlanCases.{plans}
 use Rattle.write_call.specs.WriteCases.{meant, meant-refused}
 use Rattle.write_call.proofs.write.Statement.{statement}
@@ -18,7 +20,8 @@ write-spec =
     (λ c. omega arith)
     (λ c κs. tt)
     (λ c. omega arith)
-    (λ c κs. ((c .before .before .before .before .before .before .before .before .read-store .ensures, c .before .before .before .before .before .before .before .if1 .taken, search list-right), search plans))
+    (λ c. let l : c .before .checked .given .0 .1 .1 .0 ≤ 64 = search entries-few in omega arith)
+    (λ c κs. ((c .before .before .before .before .before .before .before .before .read-store .ensures, c .before .before .before .before .before .before .before .if1 .taken, search list-right, search good-sizes), search plans))
     (λ c κs. tt)
     (λ c κs. tt)
     (λ c. omega arith)

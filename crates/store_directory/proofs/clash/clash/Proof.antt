@@ -1,4 +1,4 @@
--- `store_directory::clash::clash` meets its contract. The invariants: no two updates passed share, update i shares with none of those passed, and the arrays hold the sizes of those passed.
+-- `store_directory::clash::clash` meets its contract. The invariants: no two updates passed share, update i shares with none of those passed, and the array holds the readings of those passed.
 use borrow.Author.Needs.{needs, scaled-fits}
 use native.Mathlib.Nat.{lt-of-lt-of-le, lt-trans}
 use native.Mathlib.Numerals.{add-one-le, lt-add-one}
@@ -9,67 +9,68 @@ use mathlib.Core.Path.{_≡_}
 use mathlib.Core.Bool.{false}
 use Prim.Native.Nat.{_≤_, _<_, _-_, _+_, zero-le}
 use Rattle.laws.specs.Below.{anyBelow, any-none}
-use Rattle.update_header.specs.Fields.{dataSize}
-use Rattle.update_coverage.specs.Covers.{pairCount}
 use Rattle.store_directory.specs.Scan.{clashAt, clashRow}
-use Rattle.store_directory.specs.ClashLaws.{Kept, kept-none, more-data, more-pairs, held-data, held-pairs, clash-more, clash-stop, row-more, clash-done, clash-few}
+use Rattle.store_directory.specs.ClashLaws.{Kept, kept-none, kept-more, kept-at, clash-more, clash-stop, row-more, clash-done, clash-few}
 use Rattle.store_directory.proofs.clash.clash.Statement.{statement}
 use Rattle.store_directory.proofs.clash.clash.Tie as tie
 
 abbrev Inv-loop : tie.InvT-loop
-Inv-loop s count starts datas pairs found₀ i a d m j₀ found j = (j ≤ i) × (found ≡ false) × (anyBelow j (clashAt s starts i) ≡ false) × Kept dataSize s starts (i + 1) datas × Kept pairCount s starts (i + 1) pairs
+Inv-loop s count starts pairs found₀ i a p j₀ found j = (j ≤ i) × (found ≡ false) × (anyBelow j (clashAt s starts i) ≡ false) × Kept s starts (i + 1) pairs
 
 abbrev μ-loop : tie.MeasureT-loop
-μ-loop s count starts datas pairs found₀ i a d m j₀ found j = i - j
+μ-loop s count starts pairs found₀ i a p j₀ found j = i - j
 
 abbrev Inv-scan : tie.InvT-scan
-Inv-scan s count starts datas₀ pairs₀ found₀ i₀ datas pairs found i = (i ≤ count) × (found ≡ false) × (anyBelow i (clashRow s starts) ≡ false) × Kept dataSize s starts i datas × Kept pairCount s starts i pairs
+Inv-scan s count starts pairs₀ found₀ i₀ pairs found i = (i ≤ count) × (found ≡ false) × (anyBelow i (clashRow s starts) ≡ false) × Kept s starts i pairs
 
 abbrev μ-scan : tie.MeasureT-scan
-μ-scan s count starts datas₀ pairs₀ found₀ i₀ datas pairs found i = count - i
+μ-scan s count starts pairs₀ found₀ i₀ pairs found i = count - i
 
 -- both scans stay within the arrays
 scan-below : (c : tie.In-scan Inv-loop μ-loop Inv-scan μ-scan) → c .before .scan .i < 32
-scan-below c = lt-of-lt-of-le (c .scan-test .taken) (c .before .before .before .before .pre)
+scan-below c = lt-of-lt-of-le (c .scan-test .taken) (c .before .before .before .before .pre .0)
 
 loop-below : (c : tie.In-loop Inv-loop μ-loop Inv-scan μ-scan) → c .before .loop .j < 32
-loop-below c = lt-trans (c .loop-test .taken) (scan-below (c .before .before .before .before .before))
+loop-below c = lt-trans (c .loop-test .taken) (scan-below (c .before .before .before .before))
+
+judged-pairs-requires : tie.Need-judged-pairs-requires Inv-loop μ-loop Inv-scan μ-scan
+judged-pairs-requires c κs =
+    let p = c .before in
+    rw (c .from-start .ensures) (p .before .before .before .before .pre .1 (p .before .scan .i) (p .scan-test .taken))
 
 loop-holds : tie.Need-loop-holds Inv-loop μ-loop Inv-scan μ-scan
 loop-holds c =
-    let p = c .before .before .before in
-    let b = c .before .before .from-start .ensures in
+    let p = c .before .before in
     let inv = p .before .scan .inv in
-    (zero-le, inv .1, any-none _, more-data _ _ _ _ _ _ (scan-below p) b (inv .3) (c .before .data-size .ensures), more-pairs _ _ _ _ _ _ (scan-below p) b (inv .4) (c .pair-count .ensures))
+    (zero-le, inv .1, any-none _, kept-more _ _ _ _ _ _ (scan-below p) (c .before .from-start .ensures) (inv .3) (c .judged-pairs .ensures))
 
 shares-with-requires : tie.Need-shares-with-requires Inv-loop μ-loop Inv-scan μ-scan
 shares-with-requires c κs =
-    let p = c .before .before .before in
-    let b = c .from-start2 .ensures in
-    let inv = c .before .before .loop .inv in
-    let l = lt-trans (c .before .loop-test .taken) (lt-add-one _) in
-    ((p .before .data-size .ensures, p .pair-count .ensures), (held-data _ _ _ _ _ _ l b (inv .3), held-pairs _ _ _ _ _ _ l b (inv .4)))
+    let p = c .before .before .before .before in
+    let inv = c .before .before .before .loop .inv in
+    let l = lt-trans (c .before .before .loop-test .taken) (lt-add-one _) in
+    (p .judged-pairs .ensures, kept-at _ _ _ _ _ _ l (c .before .from-start2 .ensures) (inv .3))
 
 loop-again : tie.Need-loop-again Inv-loop μ-loop Inv-scan μ-scan
 loop-again c =
-    let d = c .before .before .before .before in
+    let d = c .before .before .before .before .before in
     let inv = d .loop .inv in
-    (add-one-le (c .before .before .before .loop-test .taken), inv .1, clash-more _ _ _ _ _ _ _ (d .before .before .before .from-start .ensures) (c .before .before .from-start2 .ensures) (c .before .shares-with .ensures) (inv .2) (c .if2 .left), inv .3, inv .4)
+    (add-one-le (c .before .before .before .before .loop-test .taken), inv .1, clash-more _ _ _ _ _ _ _ (d .before .before .from-start .ensures) (c .before .before .before .from-start2 .ensures) (c .before .shares-with .ensures) (inv .2) (c .if2 .left), inv .3)
 
 scan-again : tie.Need-scan-again Inv-loop μ-loop Inv-scan μ-scan
 scan-again c =
-    let p = c .before .before .before .before .before in
+    let p = c .before .before .before .before in
     let inv = c .before .loop .inv in
-    (add-one-le (p .scan-test .taken), inv .1, row-more _ _ _ (p .before .scan .inv .2) _ (inv .2) (inv .0) (c .loop-test .left), inv .3, inv .4)
+    (add-one-le (p .scan-test .taken), inv .1, row-more _ _ _ (p .before .scan .inv .2) _ (inv .2) (inv .0) (c .loop-test .left), inv .3)
 
 returns-2 : tie.Need-returns-2 Inv-loop μ-loop Inv-scan μ-scan
 returns-2 c = let inv = c .before .scan .inv in clash-done _ _ _ (inv .2) _ _ (inv .1) (inv .0) (c .scan-test .left)
 
 returns-3 : tie.Need-returns-3 Inv-loop μ-loop Inv-scan μ-scan
 returns-3 c =
-    let l = c .before .before .before in
-    let d = l .before .before .before .before in
-    clash-stop _ _ _ _ _ _ _ (d .from-start .ensures) (c .before .before .from-start2 .ensures) (c .before .shares-with .ensures) _ (d .before .scan-test .taken) (l .loop-test .taken) (c .if2 .taken)
+    let l = c .before .before .before .before in
+    let d = l .before .before .before in
+    clash-stop _ _ _ _ _ _ _ (d .from-start .ensures) (c .before .before .before .from-start2 .ensures) (c .before .shares-with .ensures) _ (d .before .scan-test .taken) (l .loop-test .taken) (c .if2 .taken)
 
 pub clash-spec : {M : Type 1} → statement M
 clash-spec =
@@ -83,25 +84,20 @@ clash-spec =
     (λ c. search (needs, any-none, kept-none))
     scan-below
     (search needs)
-    (search needs)
-    (search needs)
-    (λ c. scaled-fits _ 32 4 (scan-below (c .before .before .before)) (lit< tt))
-    (λ c. scan-below (c .before .before .before))
-    (λ c. scaled-fits _ 32 4 (scan-below (c .before .before .before)) (lit< tt))
-    (λ c. scan-below (c .before .before .before))
+    judged-pairs-requires
+    (λ c. scaled-fits _ 32 8 (scan-below (c .before .before)) (lit< tt))
+    (λ c. scan-below (c .before .before))
     loop-holds
     loop-below
     (search needs)
-    (λ c. scaled-fits _ 32 4 (loop-below (c .before)) (lit< tt))
-    (λ c. loop-below (c .before))
-    (λ c. scaled-fits _ 32 4 (loop-below (c .before)) (lit< tt))
+    (λ c. scaled-fits _ 32 8 (loop-below (c .before)) (lit< tt))
     (λ c. loop-below (c .before))
     shares-with-requires
-    (λ c. fits-below {n = 32} tt (add-one-le (loop-below (c .before .before .before))))
-    (λ c. falls _ _ (c .before .before .before .loop-test .taken))
+    (λ c. fits-below {n = 32} tt (add-one-le (loop-below (c .before .before .before .before))))
+    (λ c. falls _ _ (c .before .before .before .before .loop-test .taken))
     loop-again
-    (λ c. fits-below {n = 32} tt (add-one-le (scan-below (c .before .before .before .before .before))))
-    (λ c. falls _ _ (c .before .before .before .before .before .scan-test .taken))
+    (λ c. fits-below {n = 32} tt (add-one-le (scan-below (c .before .before .before .before))))
+    (λ c. falls _ _ (c .before .before .before .before .scan-test .taken))
     scan-again
     returns-2
     returns-3)
