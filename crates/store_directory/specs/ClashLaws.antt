@@ -2,7 +2,7 @@
 --   noPairs, pairsAt, Kept   an array holds the readings of the first i updates' headers
 --   kept-none, kept-more     the array at the start, and with one more update
 --   kept-at                  what stands in the array
---   clash-more, clash-stop   a turn of the inner scan, and its way out
+--   clash-more, clash-apart, clash-stop   a turn of the inner scan, by the bytes and by the readings, and its way out
 --   row-more, clash-done     a turn of the outer scan, and its end
 --   clash-few                fewer than two updates have no processor in common
 use Prim.Native.Nat.{ℕ, zero, suc, _+_, _<_, _≤_}
@@ -16,12 +16,13 @@ use Rattle.laws.specs.Loops.{scan-more}
 use Rattle.laws.specs.Arrays.{Filled, filled-none, filled-more}
 use Rattle.update_coverage.specs.Covers.{pairsOf}
 use Rattle.update_coverage.specs.declared.Pairs.{Pairs}
-use Rattle.update_sharing.specs.Shares.{shares}
+use Rattle.update_sharing.specs.Shares.{headersApart, shares}
+use Rattle.update_sharing.specs.ShareLaws.{headers-apart}
 use Rattle.store_blocks.specs.Blocks.{fromBlock}
 use Rattle.store_directory.specs.Scan.{clashAt, clashRow, clash}
 
 abbrev pub noPairs : Pairs
-noPairs = record { «data» = 0; count = 0 }
+noPairs = record { «data» = 0; count = 0; signature = 0; platforms = 0 }
 
 -- the reading of the update that begins at number k of xs
 unfoldable pub pairsAt : List ℕ → List ℕ → ℕ → Pairs
@@ -54,6 +55,13 @@ module _ (s xs a b : List ℕ) (i j : ℕ) (r : Bool) (ea : a ≡ fromBlock s (g
   pub clash-stop : (n : ℕ) → i < n → j < i → r ≡ true → true ≡ clash s xs n
   unfolding clash clashRow
   clash-stop n u v t = sym (any-stop (clashRow s xs) n i u (any-stop (clashAt s xs i) i j v (sym clash-is ∙ t)))
+
+-- a turn past an update whose reading tells that it doesn't share
+pub clash-apart : (s xs a : List ℕ) (i j : ℕ) (p q : Pairs) (r : Bool) → a ≡ fromBlock s (getD xs i 0) → p ≡ pairsOf a → q ≡ pairsAt s xs j → r ≡ headersApart p q
+    → r ≡ true → anyBelow j (clashAt s xs i) ≡ false → anyBelow (j + 1) (clashAt s xs i) ≡ false
+unfolding pairsAt
+clash-apart s xs a i j p q r b e f h t k =
+    clash-more s xs a (fromBlock s (getD xs j 0)) i j false b refl (headers-apart a (fromBlock s (getD xs j 0)) p q r e f h t) k refl
 
 module _ (s xs : List ℕ) (i : ℕ) (q : anyBelow i (clashRow s xs) ≡ false) where
   pub row-more : (j : ℕ) → anyBelow j (clashAt s xs i) ≡ false → j ≤ i → i ≤ j → anyBelow (i + 1) (clashRow s xs) ≡ false

@@ -14,7 +14,13 @@ pub fn clash(s: &[u8], starts: [u8; MOST_BLOCKS], count: usize) -> bool
     if count < 2 {
         return false;
     }
-    let mut pairs = [Pairs { data: 0, count: 0 }; MOST_BLOCKS];
+    let none = Pairs {
+        data: 0,
+        count: 0,
+        signature: 0,
+        platforms: 0,
+    };
+    let mut pairs = [none; MOST_BLOCKS];
     let mut found = false;
     let mut i: usize = 0;
     'scan: while i < count {
@@ -23,12 +29,17 @@ pub fn clash(s: &[u8], starts: [u8; MOST_BLOCKS], count: usize) -> bool
         pairs[i] = p;
         let mut j: usize = 0;
         while j < i {
-            let b = store_blocks::from_start(s, starts[j]);
-            if update_sharing::shares_with(a, p, b, pairs[j]) {
-                found = true;
-                break 'scan;
+            let q = pairs[j];
+            if update_sharing::headers_apart(p, q) {
+                j += 1;
+            } else {
+                let b = store_blocks::from_start(s, starts[j]);
+                if update_sharing::pairs_share(a, p, b, q) {
+                    found = true;
+                    break 'scan;
+                }
+                j += 1;
             }
-            j += 1;
         }
         i += 1;
     }

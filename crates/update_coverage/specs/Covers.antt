@@ -1,10 +1,10 @@
 -- Which processors an update covers (document 01, "The update"): the header and the entries are its pairs of a signature and flags. Pair 0
 -- is the header's, pair k + 1 that of entry k.
 --   pairCount                     how many pairs: none where check 2 or 3 fails
---   pairsOf                       one reading of the header: the number of data bytes and that of the pairs
 --   signatureOffset, flagsOffset  where they stand
 --   signatureAt, flagsAt          the fields of pair i, as stored
 --   platformsAt                   the flags of pair i that count: bits 8 to 31 are ignored
+--   pairsOf                       one reading of the header: the number of data bytes, that of the pairs, and pair 0
 --   names                         the flags f name platform p, 0 to 7
 --   pairCovers, coversAt          a pair, and pair i, has the signature and names the platform
 --   covers                        some pair does
@@ -26,9 +26,6 @@ use Rattle.update_coverage.specs.declared.Pairs.{Pairs}
 unfoldable pub pairCount : List ℕ → ℕ
 pairCount s = unless (headerOk s) 0 (unless (sizesFit s) 0 (entryCount s + 1))
 
-unfoldable pub pairsOf : List ℕ → Pairs
-pairsOf s = record { «data» = dataSize s; count = pairCount s }
-
 -- where the two fields of pair i stand, behind d data bytes
 unfoldable pub signatureOffset : ℕ → ℕ → ℕ
 signatureOffset d i = cond (eqb i 0) 12 (entryOffset d (i - 1))
@@ -44,6 +41,9 @@ flagsAt s i = dword s (flagsOffset (dataSize s) i)
 
 unfoldable pub platformsAt : List ℕ → ℕ → ℕ
 platformsAt s i = flagsAt s i % 256
+
+unfoldable pub pairsOf : List ℕ → Pairs
+pairsOf s = record { «data» = dataSize s; count = pairCount s; signature = signatureAt s 0; platforms = platformsAt s 0 }
 
 unfoldable pub names : ℕ → ℕ → Bool
 names f p = ltb p 8 && bit f p

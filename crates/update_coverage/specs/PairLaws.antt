@@ -2,8 +2,9 @@
 --   Paired, paired            what an update with pairs has passed
 --   pairs-made                how many pairs an update has that has passed it
 --   PairInside, pair-inside   the two fields of each pair lie inside the lent bytes, and there are at most 65 pairs
---   data-is, count-is         the two numbers of a reading of the header
---   reading, judged-few, judged-reading    a reading made of its two numbers; of an update that isn't judged again
+--   data-is, count-is         two numbers of a reading of the header
+--   reading                   a reading, from its numbers
+--   judged-few, judged-count  the number of pairs of an update that isn't judged again
 --   pairing                   the same and the count of pairs, as `search` takes them
 use Prim.Native.Nat.{ℕ, zero, suc, _+_, _<_, _≤_}
 use mathlib.Core.Path.{_≡_, refl, sym, ap, _∙_}
@@ -14,11 +15,11 @@ use lib.ListN.{length}
 use lib.Dec.{eqb}
 use borrow.Author.Tests.{ne-eqb}
 use Rattle.laws.specs.Unless.{unless}
-use Rattle.update_header.specs.Fields.{dataSize, totalSize, entryCount}
+use Rattle.update_header.specs.Fields.{signature, dataSize, totalSize, entryCount}
 use Rattle.update_sizes.specs.Sizes.{entryOffset}
 use Rattle.update_header.specs.Checks.{headerOk, sizesFit}
 use Rattle.update_header.specs.Inside.{inside, entry-count-is}
-use Rattle.update_coverage.specs.Covers.{pairCount, pairsOf, signatureOffset, flagsOffset}
+use Rattle.update_coverage.specs.Covers.{pairCount, pairsOf, signatureOffset, flagsOffset, signatureAt, platformsAt}
 use Rattle.update_coverage.specs.declared.Pairs.{Pairs}
 
 module _ (s : List ℕ) where
@@ -87,18 +88,19 @@ module _ (s : List ℕ) where
       pub flags-inside : (r : ℕ) → r ≡ flagsOffset (p .data) i → r + 4 ≤ length s
       flags-inside r q = let y = inside-pair in rw (q, data-is) (omega (arith, y .flags, y .lent))
 
-  -- the reading, from its two numbers
-  pub reading : (d n : ℕ) → d ≡ dataSize s → n ≡ pairCount s → record { «data» = d; count = n } ≡ pairsOf s
-  unfolding pairsOf
-  reading d n e f = rw (e, f)
+  -- the reading, from its numbers
+  pub reading : (d n x f : ℕ) → d ≡ dataSize s → n ≡ pairCount s → x ≡ signature s → f ≡ platformsAt s 0
+      → record { «data» = d; count = n; signature = x; platforms = f } ≡ pairsOf s
+  unfolding pairsOf signatureAt signatureOffset
+  reading d n x f e g h k = rw (e, g, h, k)
 
-  -- that of an update which isn't judged again: n is its number of entries
+  -- an update which isn't judged again: n is its number of entries
   module _ (l : 0 < pairCount s) (n : ℕ) (e : n ≡ entryCount s) where
     pub judged-few : n ≤ 64
     judged-few = rw e (inside s (paired l .sizes) .sized .few)
 
-    pub judged-reading : (d : ℕ) → d ≡ dataSize s → record { «data» = d; count = n + 1 } ≡ pairsOf s
-    judged-reading d f = reading d (n + 1) f (rw e (sym (paired l .count)))
+    pub judged-count : n + 1 ≡ pairCount s
+    judged-count = rw e (sym (paired l .count))
 
   -- the count of pairs, from what the two checks answered
   module _ (r : Bool) (e : r ≡ headerOk s) where

@@ -12,10 +12,12 @@ use update_sizes::ENTRY;
 use update_sizes::HEADER;
 use update_sizes::TABLE_HEAD;
 
-// One reading of an update's header: the number of data bytes, behind which the entries stand, and that of the pairs.
+// One reading of an update's header: the number of data bytes, behind which the entries stand, that of the pairs, and pair 0.
 pub struct Pairs {
     pub data: u32,
     pub count: u32,
+    pub signature: u32,
+    pub platforms: u8,
 }
 
 // How many pairs there are: none where check 2 or 3 of the write fails.
@@ -36,29 +38,36 @@ fn pair_count(s: &[u8], d: u32) -> u32
     }
 }
 
-// The pairs of any bytes.
-pub fn pairs_of(s: &[u8]) -> Pairs
+// The reading, with `d` data bytes and `n` pairs, where those are known.
+pub fn pairs_with(s: &[u8], d: u32, n: u32) -> Pairs
+    requires { ⌜ (d ≡ dataSize (now s)) × (n ≡ pairCount (now s)) ⌝ }
     ensures { λ r. ⌜ r ≡ pairsOf (now (s .entry)) ⌝ }
 {
-    let data = fields::data_size(s);
     Pairs {
-        data,
-        count: pair_count(s, data),
+        data: d,
+        count: n,
+        signature: fields::signature(s),
+        platforms: platforms::header_platforms(s),
     }
 }
 
-// The pairs of an update that has passed checks 2 and 3: it isn't judged again.
+// The reading of any bytes.
+pub fn pairs_of(s: &[u8]) -> Pairs
+    ensures { λ r. ⌜ r ≡ pairsOf (now (s .entry)) ⌝ }
+{
+    let d = fields::data_size(s);
+    pairs_with(s, d, pair_count(s, d))
+}
+
+// The reading of an update that has passed checks 2 and 3: it isn't judged again.
 pub fn judged_pairs(s: &[u8]) -> Pairs
     requires { ⌜ 0 < pairCount (now s) ⌝ }
     ensures { λ r. ⌜ r ≡ pairsOf (now (s .entry)) ⌝ }
 {
-    let data = fields::data_size(s);
+    let d = fields::data_size(s);
     let t = fields::total_size(s);
-    let n = fields::table_count(s, data);
-    Pairs {
-        data,
-        count: update_sizes::entries_of(data, t, n) + 1,
-    }
+    let n = fields::table_count(s, d);
+    pairs_with(s, d, update_sizes::entries_of(d, t, n) + 1)
 }
 
 fn signature_offset(d: u32, i: u32) -> usize

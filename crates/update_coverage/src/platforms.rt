@@ -5,7 +5,7 @@ ghost use Rattle.update_coverage.specs.Platforms.{platformCount, lowestP
 use update_header::fields;
 
 // The flags of the header that count.
-fn header_platforms(s: &[u8]) -> u8
+pub fn header_platforms(s: &[u8]) -> u8
     ensures { λ r. ⌜ r ≡ platformsAt (now (s .entry)) 0 ⌝ }
 {
     (fields::flags(s) % 256) as u8

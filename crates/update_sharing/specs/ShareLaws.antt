@@ -2,24 +2,26 @@
 --   shares-law     two updates share exactly if there is a processor that both cover
 --   common-and     two bytes of flags have a common platform exactly if their `and` isn't 0
 --   meets          the nested scan of pairs, as `search` takes it
---   one-pair       two updates that have the header's pair alone
+--   apartness      the tests of two readings, as `search` takes them
+--   headers-apart  two updates that have the header's pair alone, by the readings of their headers
 use Prim.Native.Nat.{ℕ, _+_, _%_, _<_}
-use mathlib.Core.Path.{_≡_, refl, sym, _∙_}
-use mathlib.Core.Bool.{Bool, true, false, not}
+use mathlib.Core.Path.{_≡_, refl, sym, ap, _∙_}
+use mathlib.Core.Bool.{Bool, true, false, not, _&&_}
 use mathlib.Core.List.{List}
 use mathlib.Core.Logic.{_↔_}
 use native.Mathlib.Omega.{arith}
 use lib.Dec.{eqb}
 use lib.Bits.{bitAnd, and-le-l}
-use borrow.Author.Tests.{eq-eqb, eqb-true, lt-ltb}
+use borrow.Author.Tests.{eq-eqb, ne-eqb, eqb-true, lt-ltb, not-true}
 use Rattle.laws.specs.Bools.{and-parts, and-made}
 use Rattle.laws.specs.Below.{anyBelow, rows, any-more, any-stop, any-at, any-false, any-cong}
 use Rattle.laws.specs.Count.{countBelow, count-zero}
 use Rattle.laws.specs.Loops.{scan-more, nest-stop}
 use Rattle.laws.specs.LowByte.{bothBit, common-bit}
-use Rattle.update_coverage.specs.Covers.{pairCount, signatureAt, platformsAt, names}
+use Rattle.update_coverage.specs.Covers.{pairCount, pairsOf, signatureAt, platformsAt, names}
+use Rattle.update_coverage.specs.declared.Pairs.{Pairs}
 use Rattle.update_coverage.specs.CoverLaws.{names-parts, covers-at, covers-made}
-use Rattle.update_sharing.specs.Shares.{bothName, common, pairShares, sharesAt, hasSignature, shares, Shares}
+use Rattle.update_sharing.specs.Shares.{bothName, common, pairShares, sharesAt, hasSignature, headersApart, shares, Shares}
 
 common-made : (f g p : ℕ) → names f p ≡ true → names g p ≡ true → common f g ≡ true
 unfolding common bothName
@@ -96,9 +98,35 @@ pub none-alike : (a b : List ℕ) (i x c : ℕ) → x ≡ signatureAt a i → c 
 unfolding rows
 none-alike a b i x c e h z k = any-more (rows (pairCount b) (sharesAt a b)) i k (any-false (sharesAt a b i) (pairCount b) (λ j l. apart a b i j x e (count-zero (hasSignature x b) (pairCount b) j (sym h ∙ z) l)))
 
--- two updates with one pair each
-pub one-pair : (a b : List ℕ) (m n x f : ℕ) (r : Bool) → m ≡ pairCount a → n ≡ pairCount b → m ≡ 1 → n ≡ 1 → x ≡ signatureAt a 0 → f ≡ platformsAt a 0 → r ≡ pairShares x f (signatureAt b 0) (platformsAt b 0) → r ≡ shares a b
-unfolding shares rows sharesAt anyBelow
-one-pair a b m n x f r p q u v e g h = rw (← p, ← q, u, v, ← e, ← g) h
+-- two updates with one pair each, by the readings of their headers: r is what a call answered of them
+pub headers-apart : (a b : List ℕ) (p q : Pairs) (r : Bool) → p ≡ pairsOf a → q ≡ pairsOf b → r ≡ headersApart p q → r ≡ true → false ≡ shares a b
+unfolding headersApart pairsOf shares rows sharesAt anyBelow
+headers-apart a b p q r e f h t =
+    let x : headersApart (pairsOf a) (pairsOf b) ≡ true = sym (ap (λ (z : Pairs). headersApart z q) e ∙ ap (headersApart (pairsOf a)) f) ∙ sym h ∙ t in
+    let y = and-parts (eqb (pairCount a) 1) (eqb (pairCount b) 1 && not (sharesAt a b 0 0)) x in
+    let z = and-parts (eqb (pairCount b) 1) (not (sharesAt a b 0 0)) (y .1) in
+    rw (eqb-true (pairCount a) 1 (y .0), eqb-true (pairCount b) 1 (z .0)) (sym (not-true (sharesAt a b 0 0) (z .1)))
+
+-- the tests of two readings, a return at each: r is what a call answered of the two pairs
+module _ (p q : Pairs) where
+  pub more-left : (p .count ≡ 1 → ⊥) → false ≡ headersApart p q
+  unfolding headersApart
+  more-left n = rw (ne-eqb (p .count) 1 n)
+
+  module _ (e : p .count ≡ 1) where
+    pub more-right : (q .count ≡ 1 → ⊥) → false ≡ headersApart p q
+    unfolding headersApart
+    more-right n = rw (eq-eqb (p .count) 1 e, ne-eqb (q .count) 1 n)
+
+    module _ (f : q .count ≡ 1) (r : Bool) (h : r ≡ pairShares (p .signature) (p .platforms) (q .signature) (q .platforms)) where
+      pub one-shares : r ≡ true → false ≡ headersApart p q
+      unfolding headersApart
+      one-shares t = rw (eq-eqb (p .count) 1 e, eq-eqb (q .count) 1 f, ← h, t)
+
+      pub one-apart : r ≡ false → true ≡ headersApart p q
+      unfolding headersApart
+      one-apart t = rw (eq-eqb (p .count) 1 e, eq-eqb (q .count) 1 f, ← h, t)
+
+pub ruleset apartness = (more-left, more-right, one-shares, one-apart)
 
 pub ruleset meets = (share-more, share-stop, none-alike)

@@ -2,15 +2,17 @@
 --   bothName, common        two flags name platform p; they name a common one
 --   pairShares, sharesAt    two pairs have the same signature and a common platform; pair i of a and pair j of b do
 --   hasSignature            pair j has signature x
+--   headersApart            two readings of headers tell that each update has one pair, and that these don't share
 --   shares                  some pair of a and some pair of b share
 --   Shares                  there is a processor that both cover; `ShareLaws` joins the two
 use Prim.Native.Nat.{ℕ, _<_}
 use mathlib.Core.Path.{_≡_}
-use mathlib.Core.Bool.{Bool, true, _&&_}
+use mathlib.Core.Bool.{Bool, true, not, _&&_}
 use mathlib.Core.List.{List}
 use lib.Dec.{eqb}
 use Rattle.laws.specs.Below.{anyBelow, rows}
 use Rattle.update_coverage.specs.Covers.{pairCount, signatureAt, platformsAt, names, covers}
+use Rattle.update_coverage.specs.declared.Pairs.{Pairs}
 
 unfoldable pub bothName : ℕ → ℕ → ℕ → Bool
 bothName f g p = names f p && names g p
@@ -27,6 +29,9 @@ sharesAt a b i j = pairShares (signatureAt a i) (platformsAt a i) (signatureAt b
 -- pair j of s has signature x
 unfoldable pub hasSignature : ℕ → List ℕ → ℕ → Bool
 hasSignature x s j = eqb x (signatureAt s j)
+
+unfoldable pub headersApart : Pairs → Pairs → Bool
+headersApart p q = eqb (p .count) 1 && (eqb (q .count) 1 && not (pairShares (p .signature) (p .platforms) (q .signature) (q .platforms)))
 
 unfoldable pub shares : List ℕ → List ℕ → Bool
 shares a b = anyBelow (pairCount a) (rows (pairCount b) (sharesAt a b))

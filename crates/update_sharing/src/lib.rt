@@ -3,7 +3,7 @@ ghost use mathlib.Core.Path.{_≡_};
 ghost use Prim.Native.Nat.{_<_};
 ghost use Rattle.update_coverage.specs.Covers.{pairCount, pairsOf, signatureAt, platformsAt};
 ghost use Rattle.laws.specs.Count.{countBelow};
-ghost use Rattle.update_sharing.specs.Shares.{common, pairShares, hasSignature, shares};
+ghost use Rattle.update_sharing.specs.Shares.{common, pairShares, hasSignature, headersApart, shares};
 use update_coverage::Pairs;
 
 fn common(f: u8, g: u8) -> bool
@@ -56,8 +56,8 @@ fn alike(x: u32, b: &[u8], pairs: Pairs) -> u32
     count
 }
 
-// Is some processor covered by both? `p` and `q` are their pairs.
-fn pairs_share(a: &[u8], p: Pairs, b: &[u8], q: Pairs) -> bool
+// Is some processor covered by both? `p` and `q` are the readings of their headers.
+pub fn pairs_share(a: &[u8], p: Pairs, b: &[u8], q: Pairs) -> bool
     requires { ⌜ (p ≡ pairsOf (now a)) × (q ≡ pairsOf (now b)) ⌝ }
     ensures { λ r. ⌜ r ≡ shares (now (a .entry)) (now (b .entry)) ⌝ }
 {
@@ -83,19 +83,33 @@ fn pairs_share(a: &[u8], p: Pairs, b: &[u8], q: Pairs) -> bool
     found
 }
 
-// The same; most updates have the header's pair alone, and two such are compared at once.
+// Most updates have the header's pair alone: for two such the readings tell whether they share, and their bytes needn't be looked at. Is
+// it so, and do they not?
+pub fn headers_apart(p: Pairs, q: Pairs) -> bool
+    ensures { λ r. ⌜ r ≡ headersApart p q ⌝ }
+{
+    if p.count == 1 {
+        if q.count == 1 {
+            if pair_shares(p.signature, p.platforms, q.signature, q.platforms) {
+                false
+            } else {
+                true
+            }
+        } else {
+            false
+        }
+    } else {
+        false
+    }
+}
+
+// The same as `pairs_share`, with a look at the readings first.
 pub fn shares_with(a: &[u8], p: Pairs, b: &[u8], q: Pairs) -> bool
     requires { ⌜ (p ≡ pairsOf (now a)) × (q ≡ pairsOf (now b)) ⌝ }
     ensures { λ r. ⌜ r ≡ shares (now (a .entry)) (now (b .entry)) ⌝ }
 {
-    if p.count == 1 {
-        if q.count == 1 {
-            let x = update_coverage::signature_at(a, p, 0);
-            let f = update_coverage::platforms_at(a, p, 0);
-            shares_at(x, f, b, q, 0)
-        } else {
-            pairs_share(a, p, b, q)
-        }
+    if headers_apart(p, q) {
+        false
     } else {
         pairs_share(a, p, b, q)
     }

@@ -183,10 +183,7 @@ pub fn write(
                     entries,
                     blocks,
                 } => {
-                    let pairs = Pairs {
-                        data,
-                        count: entries + 1,
-                    };
+                    let pairs = update_coverage::pairs_with(candidate, data, entries + 1);
                     let sizes = Sizes {
                         total,
                         blocks,

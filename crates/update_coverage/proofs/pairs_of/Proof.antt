@@ -1,5 +1,4 @@
 -- `update_coverage::pairs_of` meets its contract, by those of its calls.
-use Rattle.update_coverage.specs.PairLaws.{reading}
 use Rattle.update_coverage.proofs.pairs_of.Statement.{statement}
 use Rattle.update_coverage.proofs.pairs_of.Tie as tie
 
@@ -9,4 +8,5 @@ pairs-of-spec =
     (tie.spec
     (λ c κs. tt)
     (λ c κs. c .data-size .ensures)
-    (λ c. reading _ _ _ (c .before .data-size .ensures) (c .pair-count .ensures)))
+    (λ c κs. (c .before .data-size .ensures, c .pair-count .ensures))
+    (λ c. c .pairs-with .ensures))

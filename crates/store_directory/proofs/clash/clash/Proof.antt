@@ -10,7 +10,7 @@ use mathlib.Core.Bool.{false}
 use Prim.Native.Nat.{_≤_, _<_, _-_, _+_, zero-le}
 use Rattle.laws.specs.Below.{anyBelow, any-none}
 use Rattle.store_directory.specs.Scan.{clashAt, clashRow}
-use Rattle.store_directory.specs.ClashLaws.{Kept, kept-none, kept-more, kept-at, clash-more, clash-stop, row-more, clash-done, clash-few}
+use Rattle.store_directory.specs.ClashLaws.{Kept, kept-none, kept-more, kept-at, clash-more, clash-apart, clash-stop, row-more, clash-done, clash-few}
 use Rattle.store_directory.proofs.clash.clash.Statement.{statement}
 use Rattle.store_directory.proofs.clash.clash.Tie as tie
 
@@ -44,18 +44,26 @@ loop-holds c =
     let inv = p .before .scan .inv in
     (zero-le, inv .1, any-none _, kept-more _ _ _ _ _ _ (scan-below p) (c .before .from-start .ensures) (inv .3) (c .judged-pairs .ensures))
 
-shares-with-requires : tie.Need-shares-with-requires Inv-loop μ-loop Inv-scan μ-scan
-shares-with-requires c κs =
-    let p = c .before .before .before .before in
-    let inv = c .before .before .before .loop .inv in
-    let l = lt-trans (c .before .before .loop-test .taken) (lt-add-one _) in
-    (p .judged-pairs .ensures, kept-at _ _ _ _ _ _ l (c .before .from-start2 .ensures) (inv .3))
-
+-- past an update, by the readings and by the bytes
 loop-again : tie.Need-loop-again Inv-loop μ-loop Inv-scan μ-scan
 loop-again c =
-    let d = c .before .before .before .before .before in
+    let l = c .before .before .before in
+    let d = l .before in
     let inv = d .loop .inv in
-    (add-one-le (c .before .before .before .before .loop-test .taken), inv .1, clash-more _ _ _ _ _ _ _ (d .before .before .from-start .ensures) (c .before .before .before .from-start2 .ensures) (c .before .shares-with .ensures) (inv .2) (c .if2 .left), inv .3)
+    (add-one-le (l .loop-test .taken), inv .1, clash-apart _ _ _ _ _ _ _ _ (d .before .before .from-start .ensures) (d .before .judged-pairs .ensures) (inv .3 .each _ (lt-trans (l .loop-test .taken) (lt-add-one _))) (c .before .headers-apart .ensures) (c .if2 .taken) (inv .2), inv .3)
+
+pairs-share-requires : tie.Need-pairs-share-requires Inv-loop μ-loop Inv-scan μ-scan
+pairs-share-requires c κs =
+    let l = c .before .before .before .before in
+    let d = l .before in
+    (d .before .judged-pairs .ensures, kept-at _ _ _ _ _ _ (lt-trans (l .loop-test .taken) (lt-add-one _)) (c .from-start2 .ensures) (d .loop .inv .3))
+
+loop-again-2 : tie.Need-loop-again-2 Inv-loop μ-loop Inv-scan μ-scan
+loop-again-2 c =
+    let l = c .before .before .before .before .before .before in
+    let d = l .before in
+    let inv = d .loop .inv in
+    (add-one-le (l .loop-test .taken), inv .1, clash-more _ _ _ _ _ _ _ (d .before .before .from-start .ensures) (c .before .before .from-start2 .ensures) (c .before .pairs-share .ensures) (inv .2) (c .if3 .left), inv .3)
 
 scan-again : tie.Need-scan-again Inv-loop μ-loop Inv-scan μ-scan
 scan-again c =
@@ -68,9 +76,9 @@ returns-2 c = let inv = c .before .scan .inv in clash-done _ _ _ (inv .2) _ _ (i
 
 returns-3 : tie.Need-returns-3 Inv-loop μ-loop Inv-scan μ-scan
 returns-3 c =
-    let l = c .before .before .before .before in
+    let l = c .before .before .before .before .before .before in
     let d = l .before .before .before in
-    clash-stop _ _ _ _ _ _ _ (d .from-start .ensures) (c .before .before .before .from-start2 .ensures) (c .before .shares-with .ensures) _ (d .before .scan-test .taken) (l .loop-test .taken) (c .if2 .taken)
+    clash-stop _ _ _ _ _ _ _ (d .from-start .ensures) (c .before .before .from-start2 .ensures) (c .before .pairs-share .ensures) _ (d .before .scan-test .taken) (l .loop-test .taken) (c .if3 .taken)
 
 pub clash-spec : {M : Type 1} → statement M
 clash-spec =
@@ -85,17 +93,21 @@ clash-spec =
     scan-below
     (search needs)
     judged-pairs-requires
-    (λ c. scaled-fits _ 32 8 (scan-below (c .before .before)) (lit< tt))
+    (λ c. scaled-fits _ 32 16 (scan-below (c .before .before)) (lit< tt))
     (λ c. scan-below (c .before .before))
     loop-holds
+    (λ c. scaled-fits _ 32 16 (loop-below c) (lit< tt))
     loop-below
-    (search needs)
-    (λ c. scaled-fits _ 32 8 (loop-below (c .before)) (lit< tt))
-    (λ c. loop-below (c .before))
-    shares-with-requires
-    (λ c. fits-below {n = 32} tt (add-one-le (loop-below (c .before .before .before .before))))
-    (λ c. falls _ _ (c .before .before .before .before .loop-test .taken))
+    (λ c κs. tt)
+    (λ c. fits-below {n = 32} tt (add-one-le (loop-below (c .before .before .before))))
+    (λ c. falls _ _ (c .before .before .before .loop-test .taken))
     loop-again
+    (λ c. loop-below (c .before .before .before))
+    (search needs)
+    pairs-share-requires
+    (λ c. fits-below {n = 32} tt (add-one-le (loop-below (c .before .before .before .before .before .before))))
+    (λ c. falls _ _ (c .before .before .before .before .before .before .loop-test .taken))
+    loop-again-2
     (λ c. fits-below {n = 32} tt (add-one-le (scan-below (c .before .before .before .before))))
     (λ c. falls _ _ (c .before .before .before .before .scan-test .taken))
     scan-again
