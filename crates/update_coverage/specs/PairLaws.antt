@@ -4,21 +4,23 @@
 --   PairInside, pair-inside   the two fields of each pair lie inside the lent bytes, and there are at most 65 pairs
 --   data-is, count-is         two numbers of a reading of the header
 --   reading                   a reading, from its numbers
---   judged-few, judged-count  the number of pairs of an update that isn't judged again
+--   data-read, total-read     the sizes, from the fields of the header
+--   header-lent .. judged-reading    the same of an update that isn't judged again: its header and its table's count are lent
 --   pairing                   the same and the count of pairs, as `search` takes them
-use Prim.Native.Nat.{ℕ, zero, suc, _+_, _<_, _≤_}
+use Prim.Native.Nat.{ℕ, zero, suc, _+_, _*_, _<_, _≤_, min}
 use mathlib.Core.Path.{_≡_, refl, sym, ap, _∙_}
 use mathlib.Core.Bool.{Bool, true, false}
 use mathlib.Core.List.{List}
 use native.Mathlib.Omega.{arith}
 use lib.ListN.{length}
 use lib.Dec.{eqb}
-use borrow.Author.Tests.{ne-eqb}
+use borrow.Author.Tests.{eq-eqb, ne-eqb}
 use Rattle.laws.specs.Unless.{unless}
-use Rattle.update_header.specs.Fields.{signature, dataSize, totalSize, entryCount}
-use Rattle.update_sizes.specs.Sizes.{entryOffset}
+use Rattle.bytes_dwords.specs.Dword.{dword}
+use Rattle.update_header.specs.Fields.{signature, dataSize, totalSize, tableCount, entryCount}
+use Rattle.update_sizes.specs.Sizes.{dataSizeOf, totalSizeOf, entryOffset, entriesOf}
 use Rattle.update_header.specs.Checks.{headerOk, sizesFit}
-use Rattle.update_header.specs.Inside.{inside, entry-count-is}
+use Rattle.update_header.specs.Inside.{Inside, inside, entry-count-is}
 use Rattle.update_coverage.specs.Covers.{pairCount, pairsOf, signatureOffset, flagsOffset, signatureAt, platformsAt}
 use Rattle.update_coverage.specs.declared.Pairs.{Pairs}
 
@@ -94,13 +96,48 @@ module _ (s : List ℕ) where
   unfolding pairsOf signatureAt signatureOffset
   reading d n x f e g h k = rw (e, g, h, k)
 
-  -- an update which isn't judged again: n is its number of entries
-  module _ (l : 0 < pairCount s) (n : ℕ) (e : n ≡ entryCount s) where
-    pub judged-few : n ≤ 64
-    judged-few = rw e (inside s (paired l .sizes) .sized .few)
+  -- the sizes, from the two fields x and y
+  pub data-read : (x d : ℕ) → x ≡ dword s 28 → d ≡ dataSizeOf x → d ≡ dataSize s
+  unfolding dataSize
+  data-read x d e h = h ∙ rw e
 
-    pub judged-count : n + 1 ≡ pairCount s
-    judged-count = rw e (sym (paired l .count))
+  pub total-read : (x y t : ℕ) → x ≡ dword s 28 → y ≡ dword s 32 → t ≡ totalSizeOf x y → t ≡ totalSize s
+  unfolding totalSize
+  total-read x y t e f h = h ∙ rw (e, f)
+
+  -- an update which isn't judged again
+  module _ (l : 0 < pairCount s) where
+    judged-inside : Inside s
+    judged-inside = inside s (paired l .sizes)
+
+    pub header-lent : 48 ≤ length s
+    header-lent = let y = judged-inside in omega (arith, y .lent, y .sized .layout)
+
+    -- d and t are its sizes, as they were read
+    module _ (d t : ℕ) (e : d ≡ dataSize s) (f : t ≡ totalSize s) where
+      pub table-lent : (t ≡ 48 + d → ⊥) → 48 + d + 4 ≤ length s
+      table-lent n = rw e (behind (entryCount s) (judged-inside .sized .layout))
+        where
+          behind : (k : ℕ) → totalSize s ≡ 48 + dataSize s + 20 * min 1 k + 12 * k → 48 + dataSize s + 4 ≤ length s
+          behind zero h = absurd (n (f ∙ h ∙ rw e (omega arith)))
+          behind (suc k) h = omega (arith, judged-inside .lent)
+
+      pub no-entries : t ≡ 48 + d → 0 ≡ entryCount s
+      unfolding entryCount entriesOf
+      no-entries h = rw (← e, ← f, eq-eqb t (48 + d) h)
+
+      pub some-entries : (n : ℕ) → (t ≡ 48 + d → ⊥) → n ≡ dword s (48 + d) → n ≡ entryCount s
+      unfolding entryCount entriesOf tableCount
+      some-entries n h q = rw (← e, ← f, ne-eqb t (48 + d) h) q
+
+    -- n is its number of entries
+    module _ (n : ℕ) (e : n ≡ entryCount s) where
+      pub judged-few : n ≤ 64
+      judged-few = rw e (judged-inside .sized .few)
+
+      pub judged-reading : (d c x f : ℕ) → d ≡ dataSize s → c ≡ n + 1 → x ≡ signature s → f ≡ platformsAt s 0
+          → record { «data» = d; count = c; signature = x; platforms = f } ≡ pairsOf s
+      judged-reading d c x f g h k m = reading d c x f g (h ∙ rw e (sym (paired l .count))) k m
 
   -- the count of pairs, from what the two checks answered
   module _ (r : Bool) (e : r ≡ headerOk s) where

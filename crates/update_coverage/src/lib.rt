@@ -4,7 +4,7 @@ pub mod platforms;
 
 ghost use mathlib.Core.Path.{_≡_};
 ghost use Prim.Native.Nat.{_≤_, _<_};
-ghost use Rattle.update_header.specs.Fields.{dataSize};
+ghost use Rattle.update_header.specs.Fields.{dataSize, totalSize, entryCount};
 ghost use Rattle.update_coverage.specs.Covers.{pairCount, pairsOf, signatureOffset, flagsOffset, signatureAt, platformsAt, names, pairCovers, coversAt, covers};
 use update_header::checks;
 use update_header::fields;
@@ -59,15 +59,35 @@ pub fn pairs_of(s: &[u8]) -> Pairs
     pairs_with(s, d, pair_count(s, d))
 }
 
-// The reading of an update that has passed checks 2 and 3: it isn't judged again.
+// How many entries an update has that has passed checks 2 and 3.
+fn judged_entries(s: &[u8], d: u32, t: u32) -> u32
+    requires { ⌜ (0 < pairCount (now s)) × (d ≡ dataSize (now s)) × (t ≡ totalSize (now s)) ⌝ }
+    ensures { λ r. ⌜ r ≡ entryCount (now (s .entry)) ⌝ }
+{
+    if t as usize == HEADER + d as usize {
+        0
+    } else {
+        bytes_dwords::dword_inside(s, HEADER + d as usize)
+    }
+}
+
+// The reading of such an update. It isn't judged again: each field is one load.
 pub fn judged_pairs(s: &[u8]) -> Pairs
     requires { ⌜ 0 < pairCount (now s) ⌝ }
     ensures { λ r. ⌜ r ≡ pairsOf (now (s .entry)) ⌝ }
 {
-    let d = fields::data_size(s);
-    let t = fields::total_size(s);
-    let n = fields::table_count(s, d);
-    pairs_with(s, d, update_sizes::entries_of(d, t, n) + 1)
+    let stored = bytes_dwords::dword_inside(s, fields::DATA_SIZE_AT);
+    let d = update_sizes::data_size_of(stored);
+    let t = update_sizes::total_size_of(
+        stored,
+        bytes_dwords::dword_inside(s, fields::TOTAL_SIZE_AT),
+    );
+    Pairs {
+        data: d,
+        count: judged_entries(s, d, t) + 1,
+        signature: bytes_dwords::dword_inside(s, fields::SIGNATURE_AT),
+        platforms: (bytes_dwords::dword_inside(s, fields::FLAGS_AT) % 256) as u8,
+    }
 }
 
 fn signature_offset(d: u32, i: u32) -> usize

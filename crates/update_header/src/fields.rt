@@ -6,6 +6,10 @@ ghost use Rattle.update_header.specs.Fields.{version, revision, date, si
 pub const SIGNATURE_AT: usize = 12;
 // Where the flags stand in the header.
 pub const FLAGS_AT: usize = 24;
+// Where D stands.
+pub const DATA_SIZE_AT: usize = 28;
+// Where T stands.
+pub const TOTAL_SIZE_AT: usize = 32;
 
 // Must be 1.
 pub fn version(s: &[u8]) -> u32
@@ -55,14 +59,14 @@ pub fn flags(s: &[u8]) -> u32
 pub fn stored_data_size(s: &[u8]) -> u32
     ensures { λ r. ⌜ r ≡ storedDataSize (now (s .entry)) ⌝ }
 {
-    bytes_dwords::dword(s, 28)
+    bytes_dwords::dword(s, DATA_SIZE_AT)
 }
 
 // T as stored: it has no meaning where D is stored as 0.
 pub fn stored_total_size(s: &[u8]) -> u32
     ensures { λ r. ⌜ r ≡ storedTotalSize (now (s .entry)) ⌝ }
 {
-    bytes_dwords::dword(s, 32)
+    bytes_dwords::dword(s, TOTAL_SIZE_AT)
 }
 
 // The number of data bytes.
