@@ -39,11 +39,11 @@ pub fn put(
 }
 
 // Writes the words of a control call that was done. Zeros and three words take fewer stores than sixteen words.
-pub fn put_status(answer: &mut [u32; 16], on: u32, status: u8)
+pub fn put_status(answer: &mut [u32; 16], on: u32, status: u32)
     ensures { λ _. ⌜ now (answer .exit) ≡ rowOf 0 0 on 2 status 0 0 0 ⌝ }
 {
     *answer = [0; 16];
     answer[3] = on;
     answer[4] = 2;
-    answer[5] = status as u32;
+    answer[5] = status;
 }

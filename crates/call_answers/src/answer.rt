@@ -30,7 +30,7 @@ pub struct Written {
 
 // 1 for loading on, 0 for off.
 pub struct Control {
-    pub status: u8,
+    pub status: u32,
     pub ah: u8,
     pub al: u8,
     pub carry: bool,
@@ -46,7 +46,7 @@ pub struct Read {
 
 // The codes; the status is FFh for a control call refused for its task, else 0.
 pub struct Refused {
-    pub status: u8,
+    pub status: u32,
     pub ah: u8,
     pub al: u8,
     pub carry: bool,

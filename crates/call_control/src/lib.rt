@@ -12,9 +12,9 @@ const ENABLE: u32 = 1;
 
 const QUERY: u32 = 2;
 
-const BAD_TASK: u8 = 0xFF;
+const BAD_TASK: u32 = 0xFF;
 
-fn status_of(loading: bool) -> u8
+fn status_of(loading: bool) -> u32
     ensures { λ r. ⌜ r ≡ statusOf loading ⌝ }
 {
     if loading { 1 } else { 0 }

@@ -94,12 +94,12 @@ pub fn reply(label: &[u8], answer: Answer) {
             test_output::number(b": written, start ", a.start);
             test_output::number(b", emptied ", a.emptied);
         }
-        Answer::Control(a) => test_output::number(b": control, status ", wide(a.status)),
+        Answer::Control(a) => test_output::number(b": control, status ", a.status),
         Answer::Read(a) => test_output::number(b": read, blocks ", a.blocks),
         Answer::Refused(a) => {
             test_output::code(b": refused, AH ", wide(a.ah));
             test_output::code(b", AL ", wide(a.al));
-            test_output::code(b", status ", wide(a.status));
+            test_output::code(b", status ", a.status);
         }
     }
     test_output::text(b"\n");

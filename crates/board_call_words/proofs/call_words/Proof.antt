@@ -25,7 +25,6 @@ call-words-spec =
     (λ c. omega arith)
     (λ c κs. tt)
     (λ c. omega arith)
-    (λ c. omega arith)
     (λ c κs. tt)
     (λ c. search wording)
     (λ c. search wording)
