@@ -1,4 +1,5 @@
-// A small store as blocks and marks: which blocks each update takes, whether it shares a processor with the candidate, and whether it covers a listed processor that the candidate doesn't.
+// A small store as blocks and marks: which blocks each update takes, whether it shares a processor with the candidate, and whether it is
+// needed: covers a listed processor that the candidate doesn't.
 pub struct Layout {
     pub good: bool,
     pub blocks: u32,
@@ -7,14 +8,14 @@ pub struct Layout {
     pub starts: [u32; 4],
     pub sizes: [u32; 4],
     pub shares: [bool; 4],
-    pub keeps: [bool; 4],
+    pub needed: [bool; 4],
 }
 
 fn unused(blocks: u32) -> Layout {
     let starts = [0; 4];
     let sizes = [0; 4];
     let shares = [false; 4];
-    let keeps = [false; 4];
+    let needed = [false; 4];
     Layout {
         good: true,
         blocks,
@@ -23,7 +24,7 @@ fn unused(blocks: u32) -> Layout {
         starts,
         sizes,
         shares,
-        keeps,
+        needed,
     }
 }
 
@@ -37,7 +38,7 @@ fn sum(a: u32, b: u32) -> u64 {
 }
 
 // The layout with an update more, which begins at `block`. It is not good where the update has no room or is the fifth.
-fn with_update(l: Layout, block: u32, size: u32, shares: bool, keeps: bool) -> Layout {
+fn with_update(l: Layout, block: u32, size: u32, shares: bool, needed: bool) -> Layout {
     let mut m = l;
     let i = l.count as usize;
     if block < l.behind || i >= 4 || sum(block, size) > l.blocks as u64 {
@@ -47,13 +48,14 @@ fn with_update(l: Layout, block: u32, size: u32, shares: bool, keeps: bool) -> L
     m.starts[i] = block;
     m.sizes[i] = size;
     m.shares[i] = shares;
-    m.keeps[i] = keeps;
+    m.needed[i] = needed;
     m.count = std::num::wrapping_add_u32(l.count, 1);
     m.behind = std::num::wrapping_add_u32(block, size);
     m
 }
 
-// The layout with a block of one of nine kinds: 0 begins no update, 1 to 4 one of one block, 5 to 8 one of two, each with one pair of marks.
+// The layout with a block of one of nine kinds: 0 begins no update, 1 to 4 one of one block, 5 to 8 one of two, each with one pair of
+// marks.
 fn with_block(l: Layout, block: u32, kind: u32) -> Layout {
     if kind == 0 {
         return l;
@@ -100,10 +102,10 @@ pub fn owns(l: Layout, i: usize, c: u32) -> bool {
 }
 
 // Whether some update has both marks.
-pub fn torn(l: Layout) -> bool {
+pub fn both_marks(l: Layout) -> bool {
     let mut i: usize = 0;
     while i < 4 {
-        if l.shares[i] && l.keeps[i] {
+        if l.shares[i] && l.needed[i] {
             return true;
         }
         i += 1;

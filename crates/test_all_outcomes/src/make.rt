@@ -83,10 +83,10 @@ fn single(buf: &mut [u8], cover: Cover, start: u32, t: u32, byte: u8) {
 }
 
 // Update `i` at the buffer's first byte. With both marks it shares by its header or, at an odd block, by its entry.
-fn stored(buf: &mut [u8], i: usize, start: u32, size: u32, shares: bool, keeps: bool) {
+fn stored(buf: &mut [u8], i: usize, start: u32, size: u32, shares: bool, needed: bool) {
     let t = total(start, size);
     let byte = (i % 4) as u8 + 1;
-    if shares && keeps {
+    if shares && needed {
         if start % 2 == 0 {
             tabled(buf, sharing(i), own(0x200, i), t, byte);
         } else {
@@ -94,7 +94,7 @@ fn stored(buf: &mut [u8], i: usize, start: u32, size: u32, shares: bool, keeps: 
         }
     } else if shares {
         single(buf, sharing(i), start, t, byte);
-    } else if keeps {
+    } else if needed {
         single(buf, own(0x200, i), start, t, byte);
     } else {
         single(buf, own(0x300, i), start, t, byte);
@@ -113,7 +113,7 @@ fn stored_at(buf: &mut [u8], l: Layout, i: usize) {
                 start,
                 l.sizes[i],
                 l.shares[i],
-                l.keeps[i],
+                l.needed[i],
             );
         }
     }

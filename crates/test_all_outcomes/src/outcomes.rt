@@ -59,12 +59,12 @@ fn run_open(l: Layout, set: Set, start: u32, n: u32) -> bool {
     true
 }
 
-// Whether the set has only stored updates, none that keeps, and each that shares.
+// Whether the set has only stored updates, none that is needed, and each that shares.
 fn allowed(l: Layout, set: Set) -> bool {
     let mut i: usize = 0;
     while i < 4 {
         if set.has[i] {
-            if i >= l.count as usize || l.keeps[i] {
+            if i >= l.count as usize || l.needed[i] {
                 return false;
             }
         } else {

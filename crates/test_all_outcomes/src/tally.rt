@@ -7,7 +7,7 @@ use crate::trial::Seen;
 
 pub struct Tally {
     pub writes: u32,
-    pub torn: u32,
+    pub both_marks: u32,
     pub full: u32,
     pub written: u32,
     pub differences: u32,
@@ -18,7 +18,7 @@ fn none() -> Tally {
     let emptied = [0; 5];
     Tally {
         writes: 0,
-        torn: 0,
+        both_marks: 0,
         full: 0,
         written: 0,
         differences: 0,
@@ -46,7 +46,7 @@ fn with_written(t: Tally, emptied: u32) -> Tally {
 fn with_refused(t: Tally, al: u32) -> Tally {
     let mut u = t;
     if al == 4 {
-        u.torn = more(t.torn);
+        u.both_marks = more(t.both_marks);
     }
     if al == 5 {
         u.full = more(t.full);
@@ -154,7 +154,7 @@ fn line(label: &[u8], n: u32) {
 pub fn write(t: Tally) {
     let emptied = t.emptied;
     line(b"writes ", t.writes);
-    line(b"refused with AL 4 ", t.torn);
+    line(b"refused with AL 4 ", t.both_marks);
     line(b"refused with AL 5 ", t.full);
     line(b"written ", t.written);
     line(b"emptied 0: ", emptied[0]);

@@ -16,7 +16,8 @@ pub struct Seen {
     pub number: u32,
 }
 
-// The write of a candidate of revision 9 to the first `n` bytes, with (100, 7), two processors by which a stored update may share, and one of each update that keeps.
+// The write of a candidate of revision 9 to the first `n` bytes, with (100, 7), two processors by which a stored update may share,
+// and one of each update that is needed.
 fn call(store: &mut [u8], n: usize, candidate: &[u8]) -> Answer {
     let signatures: [u32; 7] = [0x100, 0x200, 0x201, 0x202, 0x203, 0x100, 0x100];
     let platforms: [u8; 7] = [7, 0, 0, 0, 0, 0, 2];
@@ -91,7 +92,7 @@ fn judged(answer: Answer, l: Layout, o: Outcome) -> Seen {
             number: w.emptied,
         },
         Answer::Refused(r) => {
-            let al = if layout::torn(l) { 4 } else { 5 };
+            let al = if layout::both_marks(l) { 4 } else { 5 };
             Seen {
                 same: !o.found && r.ah == 0x93 && r.al == al && r.status == 0,
                 written: false,

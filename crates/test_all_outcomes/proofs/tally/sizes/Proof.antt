@@ -7,7 +7,8 @@ use Rattle.test_all_outcomes.proofs.tally.sizes.Statement.{statement}
 use Rattle.test_all_outcomes.proofs.tally.sizes.Tie as tie
 
 abbrev Inv-loop : tie.InvT-loop
-Inv-loop store₀ wanted₀ candidate t n u₀ blocks₀ store wanted u blocks = (blocks ≤ 7) × (length store ≡ length store₀) × (length wanted ≡ length wanted₀)
+Inv-loop store₀ wanted₀ candidate t n u₀ blocks₀ store wanted u blocks =
+    (blocks ≤ 7) × (length store ≡ length store₀) × (length wanted ≡ length wanted₀)
 
 abbrev μ-loop : tie.MeasureT-loop
 μ-loop store₀ wanted₀ candidate t n u₀ blocks₀ store wanted u blocks = 7 - blocks

@@ -7,7 +7,8 @@ use Rattle.test_all_outcomes.proofs.tally.stores.Statement.{statement}
 use Rattle.test_all_outcomes.proofs.tally.stores.Tie as tie
 
 abbrev Inv-loop : tie.InvT-loop
-Inv-loop store₀ wanted₀ blocks candidate t n u₀ codes code₀ store wanted u code = (code ≤ codes) × (length store ≡ length store₀) × (length wanted ≡ length wanted₀)
+Inv-loop store₀ wanted₀ blocks candidate t n u₀ codes code₀ store wanted u code =
+    (code ≤ codes) × (length store ≡ length store₀) × (length wanted ≡ length wanted₀)
 
 abbrev μ-loop : tie.MeasureT-loop
 μ-loop store₀ wanted₀ blocks candidate t n u₀ codes code₀ store wanted u code = codes - code
