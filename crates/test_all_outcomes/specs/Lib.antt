@@ -1,0 +1,3 @@
+-- All small stores, and the best of all outcomes of a write to each.
+pub mod SmallLayouts
+pub mod SmallLayoutLaws
