@@ -1,3 +1,5 @@
 -- All small stores, and the best of all outcomes of a write to each.
 pub mod SmallLayouts
 pub mod SmallLayoutLaws
+pub mod TriedOutcomes
+pub mod TriedOutcomeLaws
