@@ -3,3 +3,5 @@ pub mod SmallLayouts
 pub mod SmallLayoutLaws
 pub mod TriedOutcomes
 pub mod TriedOutcomeLaws
+pub mod MadeStores
+pub mod MadeStoreLaws
