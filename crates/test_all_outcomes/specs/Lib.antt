@@ -5,3 +5,9 @@ pub mod TriedOutcomes
 pub mod TriedOutcomeLaws
 pub mod MadeStores
 pub mod MadeStoreLaws
+pub mod JudgedAnswers
+pub mod JudgedAnswerLaws
+pub mod WantedStores
+pub mod WantedStoreLaws
+pub mod Tallies
+pub mod TallyLaws

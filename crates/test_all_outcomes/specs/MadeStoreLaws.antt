@@ -7,13 +7,13 @@
 --   boths, storing               a return at each branch of `bothOf` and `storedOf`
 --   stored-none, stored-short, stored-there    `storedAt`
 --   placed-none, placed-more, placed-done      the loop over the updates
-use Prim.Native.Nat.{ℕ, zero, suc, _+_, _-_, _%_, _^_, _<_, _≤_}
-use mathlib.Core.Path.{_≡_, refl, sym, _∙_}
-use mathlib.Core.Bool.{Bool, true, false, cond, _&&_, and-false}
+use Prim.Native.Nat.{ℕ, _+_, _-_, _%_, _^_, _<_, _≤_}
+use mathlib.Core.Path.{_≡_, refl}
+use mathlib.Core.Bool.{Bool, true, false, and-false}
 use mathlib.Core.List.{List, _++_, append-nil}
 use native.Mathlib.Numerals.{add-one}
 use native.Mathlib.Omega.{arith}
-use lib.Dec.{eqb, leb, ltb}
+use lib.Dec.{eqb, ltb}
 use lib.ListN.{length, getD, take, drop, length-drop}
 use lib.Seq.{take-all, drop-length}
 use borrow.Author.Tests.{eq-eqb, ne-eqb, lt-ltb, le-ltb, le-leb, lt-leb}
@@ -23,15 +23,16 @@ use Rattle.test_samples.specs.Make.{header, balance, entry}
 use Rattle.test_all_outcomes.specs.declared.layout.Layout.{Layout}
 use Rattle.test_all_outcomes.specs.declared.make.Cover.{Cover}
 use Rattle.test_all_outcomes.specs.SmallLayouts.{mostUpdates}
-use Rattle.test_all_outcomes.specs.MadeStores.{cover, tabledOf, plainData, totalOf, sharingCover, ownCover, singleData, singleOf, bothOf, storedOf, placeOf, storedAt, placed}
+use Rattle.test_all_outcomes.specs.MadeStores.{cover, tabledOf, plainData, totalOf, sharingCover, ownCover, singleData, singleOf, bothOf, markedOf, storedOf, placeOf, storedAt, placed}
 
 module _ (s : List ℕ) (one other : Cover) (t byte : ℕ) where
   pub tabled-short : t < 80 → s ≡ tabledOf s one other t byte
   unfolding tabledOf
   tabled-short l = rw (lt-leb 80 t l)
 
-  pub tabled-made : 80 ≤ t → (a b c d e r : List ℕ) → a ≡ fill s 0 t byte → b ≡ header a 5 (one .signature) (one .flags) (t - 80) t → c ≡ balance b 16 0 (t - 32)
-      → d ≡ putDword c (t - 32) 1 → e ≡ entry d (t - 32) 0 (other .signature) (other .flags) → r ≡ balance e (t - 32 + 4) (t - 32) t → r ≡ tabledOf s one other t byte
+  pub tabled-made : 80 ≤ t → (a b c d e r : List ℕ) → a ≡ fill s 0 t byte
+      → b ≡ header a 5 (one .signature) (one .flags) (t - 80) t → c ≡ balance b 16 0 (t - 32) → d ≡ putDword c (t - 32) 1
+      → e ≡ entry d (t - 32) 0 (other .signature) (other .flags) → r ≡ balance e (t - 32 + 4) (t - 32) t → r ≡ tabledOf s one other t byte
   unfolding tabledOf
   tabled-made l a b c d e r f g h i j k = rw (le-leb 80 t l, ← f, ← g, ← h, ← i, ← j) k
 
@@ -90,20 +91,20 @@ pub ruleset boths = (both-even, both-odd)
 -- c is the cover that a call answered
 module _ (s r : List ℕ) (i start size t : ℕ) (shares needed : Bool) (e : t ≡ totalOf start size) where
   pub stored-both : shares ≡ true → needed ≡ true → r ≡ bothOf s i start t (i % 4 + 1) → r ≡ storedOf s i start size shares needed
-  unfolding storedOf
+  unfolding storedOf markedOf
   stored-both a b h = rw (a, b, ← e) h
 
   module _ (c : Cover) (h : r ≡ singleOf s c start t (i % 4 + 1)) where
     pub stored-sharing : shares ≡ true → needed ≡ false → c ≡ sharingCover i → r ≡ storedOf s i start size shares needed
-    unfolding storedOf
+    unfolding storedOf markedOf
     stored-sharing a b f = rw (a, b, ← e, ← f) h
 
     pub stored-needed : shares ≡ false → needed ≡ true → c ≡ ownCover 0x200 i → r ≡ storedOf s i start size shares needed
-    unfolding storedOf
+    unfolding storedOf markedOf
     stored-needed a b f = rw (a, b, ← e, ← f) h
 
     pub stored-other : shares ≡ false → needed ≡ false → c ≡ ownCover 0x300 i → r ≡ storedOf s i start size shares needed
-    unfolding storedOf
+    unfolding storedOf markedOf
     stored-other a b f = rw (a, b, ← e, ← f) h
 
 pub ruleset storing = (stored-both, stored-sharing, stored-needed, stored-other)
@@ -121,7 +122,8 @@ module _ (s : List ℕ) (l : Layout) (i : ℕ) where
 
     -- r is what the call left of the part from there on
     pub stored-there : i < mostUpdates → at ≤ length s → (r : List ℕ)
-        → r ≡ storedOf (take (length s - at) (drop at s)) i (getD (l .starts) i 0) (getD (l .sizes) i 0) (markAt (l .shares) i) (markAt (l .needed) i)
+        → r ≡ storedOf (take (length s - at) (drop at s)) i (getD (l .starts) i 0) (getD (l .sizes) i 0) (markAt (l .shares) i)
+        (markAt (l .needed) i)
         → take at s ++ (r ++ drop (length s - at) (drop at s)) ≡ storedAt s l i
     unfolding storedAt
     stored-there h k r e =

@@ -4,10 +4,9 @@
 --   codes-none                    `codes` behind 6 and at 0
 --   coding                        the loop over the blocks of a code
 --   owned                         a return at each test of `owns`
-use Prim.Native.Nat.{ℕ, zero, suc, _+_, _/_, _%_, _^_, _<_, _≤_}
-use mathlib.Core.Path.{_≡_, refl, sym, _∙_}
+use Prim.Native.Nat.{ℕ, _+_, _/_, _%_, _^_, _<_, _≤_}
+use mathlib.Core.Path.{_≡_, refl, sym}
 use mathlib.Core.Bool.{Bool, true, false, cond, _&&_, and-false}
-use mathlib.Core.List.{List}
 use native.Mathlib.Nat.{div-one, div-div-eq-div-mul, pow-suc}
 use native.Mathlib.Numerals.{add-one}
 use native.Mathlib.Omega.{arith}
@@ -15,7 +14,7 @@ use lib.Dec.{eqb, leb, ltb}
 use lib.ListN.{getD}
 use borrow.Author.Tests.{eq-eqb, ne-eqb, lt-ltb, le-ltb, le-leb, lt-leb, leb-true}
 use Rattle.test_all_outcomes.specs.declared.layout.Layout.{Layout}
-use Rattle.test_all_outcomes.specs.SmallLayouts.{mostUpdates, unused, hasRoom, spoilt, added, withUpdate, kindSize, withKind, codes, kindOf, codedTo, owns}
+use Rattle.test_all_outcomes.specs.SmallLayouts.{mostUpdates, unused, hasRoom, spoilt, added, withUpdate, kindSize, withKind, codes, codedTo, owns}
 
 -- r is what the code returns
 module _ (l r : Layout) (block size : ℕ) (shares needed : Bool) where
@@ -29,9 +28,11 @@ module _ (l r : Layout) (block size : ℕ) (shares needed : Bool) where
 
   pub room-behind : (end : ℕ) → end ≡ block + size → l .blocks < end → r ≡ spoilt l → r ≡ withUpdate l block size shares needed
   unfolding withUpdate hasRoom
-  room-behind end q h e = rw (lt-leb (block + size) (l .blocks) (rw q at h), and-false (leb (l .behind) block && ltb (l .count) mostUpdates)) e
+  room-behind end q h e =
+      rw (lt-leb (block + size) (l .blocks) (rw q at h), and-false (leb (l .behind) block && ltb (l .count) mostUpdates)) e
 
-  pub room-there : l .behind ≤ block → l .count < mostUpdates → block + size ≤ l .blocks → r ≡ added l block size shares needed → r ≡ withUpdate l block size shares needed
+  pub room-there : l .behind ≤ block → l .count < mostUpdates → block + size ≤ l .blocks → r ≡ added l block size shares needed
+      → r ≡ withUpdate l block size shares needed
   unfolding withUpdate hasRoom
   room-there h k m e = rw (le-leb (l .behind) block h, lt-ltb (l .count) mostUpdates k, le-leb (block + size) (l .blocks) m) e
 
@@ -40,7 +41,8 @@ module _ (l r : Layout) (block kind : ℕ) where
   unfolding withKind
   kind-none e = rw (eq-eqb kind 0 e)
 
-  pub kind-some : (kind ≡ 0 → ⊥) → (size : ℕ) → size ≡ kindSize kind → r ≡ withUpdate l block size (eqb (kind % 2) 1) (eqb (kind / 2 % 2) 1) → r ≡ withKind l block kind
+  pub kind-some : (kind ≡ 0 → ⊥) → (size : ℕ) → size ≡ kindSize kind
+      → r ≡ withUpdate l block size (eqb (kind % 2) 1) (eqb (kind / 2 % 2) 1) → r ≡ withKind l block kind
   unfolding withKind
   kind-some h size e f = rw (ne-eqb kind 0 h, ← e) f
 
@@ -50,7 +52,8 @@ module _ (blocks code : ℕ) where
   unfolding codedTo
   coded-none l e = e
 
-  pub coded-more : (l r : Layout) (b rest : ℕ) → l ≡ codedTo blocks code b → rest ≡ code / 9 ^ b → r ≡ withKind l b (rest % 9) → r ≡ codedTo blocks code (b + 1)
+  pub coded-more : (l r : Layout) (b rest : ℕ) → l ≡ codedTo blocks code b → rest ≡ code / 9 ^ b → r ≡ withKind l b (rest % 9)
+      → r ≡ codedTo blocks code (b + 1)
   unfolding codedTo
   coded-more l r b rest e f h = rw (add-one b, ← e, ← f) h
 
@@ -75,8 +78,8 @@ codes-out blocks true true e f h = absurd (outside blocks (h (leb-true 1 blocks 
 codes-out blocks true false e f h = refl
 codes-out blocks false b e f h = refl
 
-pub codes-none : (blocks : ℕ) → (blocks ≡ 1 → ⊥) → (blocks ≡ 2 → ⊥) → (blocks ≡ 3 → ⊥) → (blocks ≡ 4 → ⊥) → (blocks ≡ 5 → ⊥) → (blocks ≡ 6 → ⊥)
-    → 0 ≡ codes blocks
+pub codes-none : (blocks : ℕ) → (blocks ≡ 1 → ⊥) → (blocks ≡ 2 → ⊥) → (blocks ≡ 3 → ⊥) → (blocks ≡ 4 → ⊥)
+    → (blocks ≡ 5 → ⊥) → (blocks ≡ 6 → ⊥) → 0 ≡ codes blocks
 unfolding codes
 codes-none b m n o p q r =
     codes-out b (leb 1 b) (leb b 6) refl refl
@@ -91,6 +94,7 @@ module _ (l : Layout) (i c : ℕ) where
   unfolding owns
   owned-behind h = rw (lt-leb (getD (l .starts) i 0) c h, and-false (ltb i mostUpdates))
 
-  pub owned-within : i < mostUpdates → getD (l .starts) i 0 ≤ c → (end : ℕ) → end ≡ getD (l .starts) i 0 + getD (l .sizes) i 0 → ltb c end ≡ owns l i c
+  pub owned-within : i < mostUpdates → getD (l .starts) i 0 ≤ c → (end : ℕ) → end ≡ getD (l .starts) i 0 + getD (l .sizes) i 0
+      → ltb c end ≡ owns l i c
   unfolding owns
   owned-within h k end e = rw (lt-ltb i mostUpdates h, le-leb (getD (l .starts) i 0) c k, e)

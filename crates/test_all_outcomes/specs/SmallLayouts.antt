@@ -27,7 +27,16 @@ use Rattle.test_all_outcomes.specs.declared.layout.Layout.{Layout}
 
 abbrev pub layout : Bool → ℕ → ℕ → ℕ → List ℕ → List ℕ → List Bool → List Bool → Layout
 layout good blocks count behind starts sizes shares needed =
-    record { good = good; blocks = blocks; count = count; behind = behind; starts = starts; sizes = sizes; shares = shares; needed = needed }
+    record {
+      good = good;
+      blocks = blocks;
+      count = count;
+      behind = behind;
+      starts = starts;
+      sizes = sizes;
+      shares = shares;
+      needed = needed;
+    }
 
 abbrev pub mostUpdates : ℕ
 mostUpdates = 4

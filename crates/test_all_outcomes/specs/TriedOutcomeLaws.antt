@@ -7,12 +7,12 @@
 --   bettering                  one at each test of `better`
 --   best-none, best-more       the loop over the sets
 --   start-none, start-more     the loop over the starts
-use Prim.Native.Nat.{ℕ, zero, suc, _+_, _<_, _≤_}
-use mathlib.Core.Path.{_≡_, refl, sym, _∙_}
-use mathlib.Core.Bool.{Bool, true, false, cond, not, _&&_, _||_, and-false}
+use Prim.Native.Nat.{ℕ, _+_, _<_, _≤_}
+use mathlib.Core.Path.{_≡_, refl, sym}
+use mathlib.Core.Bool.{Bool, true, false}
 use native.Mathlib.Numerals.{add-one}
 use native.Mathlib.Omega.{arith}
-use lib.Dec.{leb, ltb}
+use lib.Dec.{leb}
 use borrow.Author.Tests.{lt-ltb, le-ltb}
 use Rattle.laws.specs.Below.{allBelow, all-stop}
 use Rattle.laws.specs.Arrays.{markAt}
@@ -20,7 +20,7 @@ use Rattle.test_all_outcomes.specs.declared.layout.Layout.{Layout}
 use Rattle.test_all_outcomes.specs.declared.outcomes.Set.{Set}
 use Rattle.test_all_outcomes.specs.declared.outcomes.Outcome.{Outcome}
 use Rattle.test_all_outcomes.specs.SmallLayouts.{owns}
-use Rattle.test_all_outcomes.specs.TriedOutcomes.{numbered, hasUpdate, sizeOf, freeOf, isOpen, openAt, runOpen, allowedAt, allowed, legal, outcome, noWorse, better, bestAt, none, bestTo}
+use Rattle.test_all_outcomes.specs.TriedOutcomes.{numbered, sizeOf, freeOf, isOpen, openAt, runOpen, allowedAt, allowed, legal, outcome, noWorse, better, bestAt, none, bestTo}
 
 module _ (l : Layout) (set : Set) (c i : ℕ) where
   pub free-inside : markAt (set .has) i ≡ true → true ≡ freeOf l set c i
@@ -123,7 +123,8 @@ module _ (old : Outcome) (l : Layout) (n start : ℕ) where
   unfolding bestAt
   best-none = refl
 
-  pub best-more : (o r : Outcome) (set : Set) (k : ℕ) → o ≡ bestAt old l n start k → set ≡ numbered k → r ≡ better o l n start set → r ≡ bestAt old l n start (k + 1)
+  pub best-more : (o r : Outcome) (set : Set) (k : ℕ) → o ≡ bestAt old l n start k → set ≡ numbered k → r ≡ better o l n start set
+      → r ≡ bestAt old l n start (k + 1)
   unfolding bestAt
   best-more o r set k e f h = rw (add-one k, ← e, ← f) h
 

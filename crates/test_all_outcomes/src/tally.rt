@@ -1,9 +1,21 @@
 // All small stores tried, and counted by their answers.
+ghost use mathlib.Core.Path.{_≡_};
+ghost use Rattle.test_all_outcomes.specs.Tallies.{
+  more,
+  noTally,
+  withWritten,
+  withRefused,
+  withNumber,
+  withJudged,
+  withCall,
+  withSeen,
+};
 use crate::layout;
 use crate::layout::Layout;
 use crate::make;
 use crate::trial;
 use crate::trial::Seen;
+use call_answers::code;
 
 pub struct Tally {
     pub writes: u32,
@@ -14,7 +26,9 @@ pub struct Tally {
     pub emptied: [u32; 5],
 }
 
-fn none() -> Tally {
+fn none() -> Tally
+    ensures { λ r. ⌜ r ≡ noTally ⌝ }
+{
     let emptied = [0; 5];
     Tally {
         writes: 0,
@@ -26,45 +40,76 @@ fn none() -> Tally {
     }
 }
 
-fn more(n: u32) -> u32 {
+fn more(n: u32) -> u32
+    ensures { λ r. ⌜ r ≡ more n ⌝ }
+{
     std::num::wrapping_add_u32(n, 1)
 }
 
 // A write counted by its emptied count.
-fn with_written(t: Tally, emptied: u32) -> Tally {
+fn with_written(t: Tally, emptied: u32) -> Tally
+    ensures { λ r. ⌜ r ≡ withWritten t emptied ⌝ }
+{
     let mut u = t;
     let i = emptied as usize;
     u.written = more(t.written);
     if i < 5 {
         let n = t.emptied[i];
         u.emptied[i] = more(n);
+        return u;
     }
     u
 }
 
 // A refusal counted by its AL.
-fn with_refused(t: Tally, al: u32) -> Tally {
+fn with_refused(t: Tally, al: u32) -> Tally
+    ensures { λ r. ⌜ r ≡ withRefused t al ⌝ }
+{
     let mut u = t;
-    if al == 4 {
+    if al == code::SHARING_NEEDED as u32 {
         u.both_marks = more(t.both_marks);
+        return u;
     }
-    if al == 5 {
+    if al == code::NO_RUN as u32 {
         u.full = more(t.full);
+        return u;
     }
     u
 }
 
-fn with(t: Tally, seen: Seen) -> Tally {
-    let mut u = if seen.written {
-        with_written(t, seen.number)
+fn with_number(t: Tally, written: bool, n: u32) -> Tally
+    ensures { λ r. ⌜ r ≡ withNumber t written n ⌝ }
+{
+    if written {
+        with_written(t, n)
     } else {
-        with_refused(t, seen.number)
-    };
-    u.writes = more(t.writes);
-    if !seen.same {
-        u.differences = more(t.differences);
+        with_refused(t, n)
     }
+}
+
+fn with_judged(t: Tally, same: bool) -> Tally
+    ensures { λ r. ⌜ r ≡ withJudged t same ⌝ }
+{
+    let mut u = t;
+    if same {
+        return u;
+    }
+    u.differences = more(t.differences);
     u
+}
+
+fn with_call(t: Tally) -> Tally
+    ensures { λ r. ⌜ r ≡ withCall t ⌝ }
+{
+    let mut u = t;
+    u.writes = more(t.writes);
+    u
+}
+
+fn with(t: Tally, seen: Seen) -> Tally
+    ensures { λ r. ⌜ r ≡ withSeen t seen ⌝ }
+{
+    with_call(with_judged(with_number(t, seen.written, seen.number), seen.same))
 }
 
 // The store of a layout tried with one candidate, if the layout is good.

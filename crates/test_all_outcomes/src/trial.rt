@@ -1,4 +1,8 @@
 // One write tried, and compared with the best outcome.
+ghost use mathlib.Core.Path.{_≡_};
+ghost use Rattle.test_all_outcomes.specs.MadeStores.{storeOf};
+ghost use Rattle.test_all_outcomes.specs.WantedStores.{emptiedAt, emptiedTo, candidateAt, wantedIn};
+ghost use Rattle.test_all_outcomes.specs.JudgedAnswers.{writtenRight, fullAl, refusedRight, judged, sameFirst};
 use crate::layout;
 use crate::layout::Layout;
 use crate::make;
@@ -7,6 +11,7 @@ use crate::outcomes::Outcome;
 use crate::outcomes::Set;
 use call_answers::answer;
 use call_answers::answer::Answer;
+use call_answers::code;
 use test_samples::bytes;
 
 // What was seen of one write: whether it was as it should be, and its AL or its emptied count.
@@ -43,7 +48,9 @@ fn call(store: &mut [u8], n: usize, candidate: &[u8]) -> Answer {
 }
 
 // Fills the blocks of update `i` with FFh if a set has it.
-fn empty_update(buf: &mut [u8], l: Layout, set: Set, i: usize) {
+fn empty_update(buf: &mut [u8], l: Layout, set: Set, i: usize)
+    ensures { λ _. ⌜ now (buf .exit) ≡ emptiedAt (now (buf .entry)) l set i ⌝ }
+{
     if i < 4 {
         if set.has[i] {
             let start = l.starts[i];
@@ -54,7 +61,9 @@ fn empty_update(buf: &mut [u8], l: Layout, set: Set, i: usize) {
 }
 
 // Fills the blocks of all updates of a set with FFh.
-fn empty_all(buf: &mut [u8], l: Layout, set: Set) {
+fn empty_all(buf: &mut [u8], l: Layout, set: Set)
+    ensures { λ _. ⌜ now (buf .exit) ≡ emptiedTo (now (buf .entry)) l set 4 ⌝ }
+{
     let mut i: usize = 0;
     while i < 4 {
         empty_update(buf, l, set, i);
@@ -63,16 +72,23 @@ fn empty_all(buf: &mut [u8], l: Layout, set: Set) {
 }
 
 // Puts a candidate of T bytes at a start, and FFh behind it to the end of its run of `n` blocks.
-fn put_candidate(buf: &mut [u8], start: u32, candidate: &[u8], t: u32, n: u32) {
+fn put_candidate(buf: &mut [u8], start: u32, candidate: &[u8], t: u32, n: u32)
+    ensures { λ _. ⌜ now (buf .exit) ≡ candidateAt (now (buf .entry)) start (now (candidate .entry)) t n ⌝ }
+{
     bytes::fill(buf, layout::bytes(start) as usize, layout::bytes(n), 255);
     bytes::put(buf, layout::bytes(start) as usize, candidate, t);
 }
 
 // Whether two buffers have the same first `n` bytes.
-fn same(a: &[u8], b: &[u8], n: usize) -> bool {
+fn same(a: &[u8], b: &[u8], n: usize) -> bool
+    ensures { λ r. ⌜ r ≡ sameFirst (now (a .entry)) (now (b .entry)) n ⌝ }
+{
     let mut i: usize = 0;
     while i < n {
-        if i >= a.len() || i >= b.len() {
+        if i >= a.len() {
+            return false;
+        }
+        if i >= b.len() {
             return false;
         }
         if a[i] != b[i] {
@@ -83,22 +99,64 @@ fn same(a: &[u8], b: &[u8], n: usize) -> bool {
     true
 }
 
+// Whether a write that was done is the best outcome.
+fn written_right(o: Outcome, start: u32, emptied: u32) -> bool
+    ensures { λ r. ⌜ r ≡ writtenRight o start emptied ⌝ }
+{
+    if o.found {
+        if start == o.start {
+            emptied == o.emptied
+        } else {
+            false
+        }
+    } else {
+        false
+    }
+}
+
+// AL of a refusal for want of room.
+fn full_al(l: Layout) -> u8
+    ensures { λ r. ⌜ r ≡ fullAl l ⌝ }
+{
+    if layout::both_marks(l) {
+        code::SHARING_NEEDED
+    } else {
+        code::NO_RUN
+    }
+}
+
+// Whether a refusal is right: there is no legal outcome, and the codes say why.
+fn refused_right(l: Layout, o: Outcome, ah: u8, al: u8, status: u8) -> bool
+    ensures { λ r. ⌜ r ≡ refusedRight l o ah al status ⌝ }
+{
+    if o.found {
+        return false;
+    }
+    if ah != code::STORAGE_FULL {
+        return false;
+    }
+    let want = full_al(l);
+    if al != want {
+        return false;
+    }
+    status == 0
+}
+
 // An answer compared with the best outcome.
-fn judged(answer: Answer, l: Layout, o: Outcome) -> Seen {
+fn judged(answer: Answer, l: Layout, o: Outcome) -> Seen
+    ensures { λ r. ⌜ r ≡ judged answer l o ⌝ }
+{
     match answer {
         Answer::Written(w) => Seen {
-            same: o.found && w.start == o.start && w.emptied == o.emptied,
+            same: written_right(o, w.start, w.emptied),
             written: true,
             number: w.emptied,
         },
-        Answer::Refused(r) => {
-            let al = if layout::both_marks(l) { 4 } else { 5 };
-            Seen {
-                same: !o.found && r.ah == 0x93 && r.al == al && r.status == 0,
-                written: false,
-                number: r.al as u32,
-            }
-        }
+        Answer::Refused(r) => Seen {
+            same: refused_right(l, o, r.ah, r.al, r.status),
+            written: false,
+            number: r.al as u32,
+        },
         Answer::Presence(_) => Seen {
             same: false,
             written: false,
@@ -126,7 +184,11 @@ fn prepare(
     candidate: &[u8],
     t: u32,
     n: u32,
-) {
+)
+    ensures stores { λ _. ⌜ now (store .exit) ≡ storeOf (now (store .entry)) l ⌝ }
+    ensures wants { λ _. ⌜ now (wanted .exit) ≡ wantedIn (now (wanted .entry)) (storeOf (now (store .entry)) l) l o
+        (now (candidate .entry)) t n ⌝ }
+{
     make::store(store, l);
     bytes::put(wanted, 0, store, 12288);
     if o.found {

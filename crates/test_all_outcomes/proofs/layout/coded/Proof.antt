@@ -2,7 +2,6 @@
 -- others are left.
 use mathlib.Core.Path.{_≡_}
 use Prim.Native.Nat.{_≤_, _-_, _/_, _^_}
-use native.Mathlib.Omega.{arith}
 use borrow.Author.Needs.{needs}
 use Rattle.test_all_outcomes.specs.SmallLayouts.{codedTo}
 use Rattle.test_all_outcomes.specs.SmallLayoutLaws.{coded-none, coded-more, coded-done, rest-none, rest-more}

@@ -1,5 +1,4 @@
 -- `test_all_outcomes::make::single_data` meets its contract: a return at each test.
-use borrow.Author.Needs.{needs}
 use Rattle.test_all_outcomes.specs.MadeStoreLaws.{singles}
 use Rattle.test_all_outcomes.proofs.make.single_data.Statement.{statement}
 use Rattle.test_all_outcomes.proofs.make.single_data.Tie as tie

@@ -1,5 +1,4 @@
 -- `test_all_outcomes::make::stored` meets its contract: a return at each pair of marks.
-use native.Mathlib.Omega.{arith}
 use borrow.Author.Needs.{needs}
 use Rattle.test_all_outcomes.specs.MadeStoreLaws.{storing}
 use Rattle.test_all_outcomes.proofs.make.stored.Statement.{statement}

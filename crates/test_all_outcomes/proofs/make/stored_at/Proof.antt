@@ -1,5 +1,4 @@
 -- `test_all_outcomes::make::stored_at` meets its contract: a return at each test, and the part from the update's place on is made.
-use native.Mathlib.Omega.{arith}
 use borrow.Author.Needs.{needs}
 use Rattle.laws.specs.Arrays.{markAt}
 use Rattle.test_all_outcomes.specs.MadeStoreLaws.{stored-none, stored-short, stored-there}

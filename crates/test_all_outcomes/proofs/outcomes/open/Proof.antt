@@ -1,4 +1,5 @@
--- `test_all_outcomes::outcomes::open` meets its contract. The loop's invariant: the block belongs to no update passed that is outside the set.
+-- `test_all_outcomes::outcomes::open` meets its contract. The loop's invariant: the block belongs to no update passed that is
+-- outside the set.
 use mathlib.Core.Path.{_≡_}
 use mathlib.Core.Bool.{true}
 use Prim.Native.Nat.{_≤_, _-_}

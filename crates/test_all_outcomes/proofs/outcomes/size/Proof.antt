@@ -1,9 +1,8 @@
 -- `test_all_outcomes::outcomes::size` meets its contract. The loop's invariant: `n` counts the updates passed that the set has.
-use mathlib.Core.Path.{_≡_, refl}
+use mathlib.Core.Path.{_≡_}
 use Prim.Native.Nat.{_≤_, _-_}
-use native.Mathlib.Omega.{arith}
 use borrow.Author.Needs.{needs}
-use Rattle.laws.specs.Count.{countBelow, count-yes, count-no, counting}
+use Rattle.laws.specs.Count.{countBelow, counting}
 use Rattle.laws.specs.Arrays.{markAt}
 use Rattle.test_all_outcomes.specs.TriedOutcomes.{sizeOf}
 use Rattle.test_all_outcomes.proofs.outcomes.size.Statement.{statement}
