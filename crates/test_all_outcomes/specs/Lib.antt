@@ -11,3 +11,5 @@ pub mod WantedStores
 pub mod WantedStoreLaws
 pub mod Tallies
 pub mod TallyLaws
+pub mod BestOutcome
+pub mod BestOutcomeLaws

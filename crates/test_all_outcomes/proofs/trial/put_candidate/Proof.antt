@@ -4,8 +4,14 @@ use Rattle.test_all_outcomes.specs.WantedStores.{candidateAt}
 use Rattle.test_all_outcomes.proofs.trial.put_candidate.Statement.{statement}
 use Rattle.test_all_outcomes.proofs.trial.put_candidate.Tie as tie
 
-pub put-candidate-spec : {M : Type 1} → statement M
+returns : tie.Need-returns
 unfolding candidateAt
+returns c =
+    let d = c .before .before in
+    let e = d .before .before .before .before .before in
+    rw (d .put .ensures, e .fill .ensures, d .before .bytes3 .ensures, e .before .bytes2 .ensures, e .before .before .bytes .ensures)
+
+pub put-candidate-spec : {M : Type 1} → statement M
 put-candidate-spec =
     tie.close
     (tie.spec
@@ -17,4 +23,4 @@ put-candidate-spec =
     (λ c. search needs)
     (λ c κs. tt)
     (λ c. search needs)
-    (λ c. cc))
+    returns)
