@@ -1,9 +1,10 @@
 -- Laws of small layouts, in the form in which a proof of the code takes them.
---   rooms                         `withUpdate` where there is room, and where a test fails
---   kind-none, kind-some          `withKind` at 0 and at another kind
---   codes-none                    `codes` behind 6 and at 0
---   coding                        the loop over the blocks of a code
---   owned                         a return at each test of `owns`
+--   room-taken, room-full, room-behind, room-there    `withUpdate` where a test fails, and where there is room
+--   kind-none, kind-some                              `withKind` at 0, and at another kind
+--   coded-none, coded-more, coded-done                the loop over the blocks of a code
+--   rest-none, rest-more                              what is left of the code in it
+--   codes-none                                        `codes` at 0 and behind 6
+--   owned-none, owned-behind, owned-within            `owns` at each test
 use Prim.Native.Nat.{ℕ, _+_, _/_, _%_, _^_, _<_, _≤_}
 use mathlib.Core.Path.{_≡_, refl, sym}
 use mathlib.Core.Bool.{Bool, true, false, cond, _&&_, and-false}

@@ -1,12 +1,12 @@
 -- Laws of the outcomes, in the form in which a proof of the code takes them: r is what a call answered, z what the code returns.
 --   freed                      a return at each test of `freeOf`
---   opened                     one at each test of `openAt`
+--   opened                     one at each test of `openAt`, and the loop over the run
 --   allowing                   one at each test of `allowedAt`
 --   legal-no, legal-yes        one at each test of `legal`
 --   worse-no, worse-yes        one at each test of `noWorse`
 --   bettering                  one at each test of `better`
---   best-none, best-more       the loop over the sets
---   start-none, start-more     the loop over the starts
+--   best-none .. best-done     the loop over the sets
+--   start-none .. start-done   the loop over the starts
 use Prim.Native.Nat.{ℕ, _+_, _<_, _≤_}
 use mathlib.Core.Path.{_≡_, refl, sym}
 use mathlib.Core.Bool.{Bool, true, false}

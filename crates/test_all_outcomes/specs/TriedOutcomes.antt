@@ -9,14 +9,15 @@
 --   runOpen       each of the n blocks of the run does
 --   allowedAt     update i in the set is stored and is not needed; outside the set it doesn't share
 --   allowed       so it is with each: every sharing update is in the set, no needed one is, and only stored ones are
---   legal         the set is allowed, and the run is open
+--   legal         the set is allowed, and the run is open; `Legal` (LegalOutcome) says it in words
 --   outcome       an outcome by its fields, in the order of the source
 --   noWorse       an outcome was found, and empties no more than `emptied`
 --   better        the new outcome if it is legal and empties fewer than the one found so far, which else stays
 --   bestAt        the best so far, after the first k sets at a start
 --   none          no outcome
 --   bestTo        the best of the starts below `start`
---   best          the best of all: the first of the legal outcomes that empty the fewest, by starts and then by sets
+--   best          the best of all: the first of the legal outcomes that empty the fewest, by starts and then by
+--                 sets; `Best` (BestOutcome) says it in words
 use Prim.Native.Nat.{ℕ, zero, suc, _+_, _/_, _%_}
 use mathlib.Core.Bool.{Bool, true, false, cond, not, _&&_, _||_}
 use mathlib.Core.List.{[], _∷_}

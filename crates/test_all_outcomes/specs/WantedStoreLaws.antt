@@ -1,6 +1,7 @@
 -- Laws of the wanted bytes, in the form in which a proof of the code takes them.
---   emptying      a return at each test of `emptiedAt`, and the loop over the updates
---   wanted-none, wanted-there    the two ways of `wantedIn`
+--   emptied-behind, emptied-outside, emptied-inside    `emptiedAt` where a test fails, and where the set has the update
+--   emptied-none, emptied-more, emptied-done           the loop over the updates
+--   wanted-none, wanted-there                          the two ways of `wantedIn`
 use Prim.Native.Nat.{ℕ, _+_, _<_, _≤_}
 use mathlib.Core.Path.{_≡_, refl}
 use mathlib.Core.Bool.{true, false, and-false}

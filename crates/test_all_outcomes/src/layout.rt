@@ -3,18 +3,7 @@
 ghost use mathlib.Core.Path.{_≡_};
 ghost use mathlib.Core.Bool.{_&&_};
 ghost use Prim.Native.Nat.{_+_};
-ghost use Rattle.test_all_outcomes.specs.SmallLayouts.{
-  unused,
-  blockBytes,
-  spoilt,
-  withUpdate,
-  kindSize,
-  withKind,
-  codes,
-  coded,
-  owns,
-  bothMarks,
-};
+ghost use Rattle.test_all_outcomes.specs.SmallLayouts.{unused, blockBytes, spoilt, withUpdate, kindSize, withKind, codes, coded, owns, bothMarks};
 
 pub struct Layout {
     pub good: bool,
@@ -55,6 +44,7 @@ fn sum(a: u32, b: u32) -> u64
     a as u64 + b as u64
 }
 
+// The layout, not good.
 fn spoilt(l: Layout) -> Layout
     ensures { λ r. ⌜ r ≡ spoilt l ⌝ }
 {
@@ -89,6 +79,7 @@ fn with_update(l: Layout, block: u32, size: u32, shares: bool, needed: bool) -> 
     m
 }
 
+// The blocks of an update of a kind.
 fn kind_size(kind: u32) -> u32
     ensures { λ r. ⌜ r ≡ kindSize kind ⌝ }
 {

@@ -1,20 +1,6 @@
 // The candidates, and the stores of layouts, made in a lent buffer.
 ghost use mathlib.Core.Path.{_≡_};
-ghost use Rattle.test_all_outcomes.specs.MadeStores.{
-  plainOf,
-  tabledOf,
-  plainData,
-  candidateOf,
-  totalOf,
-  sharingCover,
-  ownCover,
-  singleData,
-  singleOf,
-  bothOf,
-  storedOf,
-  storedAt,
-  storeOf,
-};
+ghost use Rattle.test_all_outcomes.specs.MadeStores.{plainOf, tabledOf, plainData, candidateOf, totalOf, sharingCover, ownCover, singleData, singleOf, bothOf, storedOf, storedAt, storeOf};
 use crate::layout;
 use crate::layout::Layout;
 use test_samples::bytes;

@@ -1,21 +1,7 @@
 // All outcomes of a write, gone through one by one: each start, and each set of stored updates to be emptied.
 ghost use mathlib.Core.Path.{_≡_};
 ghost use Prim.Native.Nat.{_<_};
-ghost use Rattle.test_all_outcomes.specs.TriedOutcomes.{
-  numbered,
-  sizeOf,
-  freeOf,
-  isOpen,
-  runOpen,
-  allowedAt,
-  allowed,
-  legal,
-  noWorse,
-  better,
-  bestAt,
-  none,
-  best,
-};
+ghost use Rattle.test_all_outcomes.specs.TriedOutcomes.{numbered, sizeOf, freeOf, isOpen, runOpen, allowedAt, allowed, legal, noWorse, better, bestAt, none, best};
 use crate::layout;
 use crate::layout::Layout;
 

@@ -1,15 +1,6 @@
 // All small stores tried, and counted by their answers.
 ghost use mathlib.Core.Path.{_≡_};
-ghost use Rattle.test_all_outcomes.specs.Tallies.{
-  more,
-  noTally,
-  withWritten,
-  withRefused,
-  withNumber,
-  withJudged,
-  withCall,
-  withSeen,
-};
+ghost use Rattle.test_all_outcomes.specs.Tallies.{more, noTally, withWritten, withRefused, withNumber, withJudged, withCall, withSeen};
 use crate::layout;
 use crate::layout::Layout;
 use crate::make;
@@ -77,6 +68,7 @@ fn with_refused(t: Tally, al: u32) -> Tally
     u
 }
 
+// A write counted by what became of it.
 fn with_number(t: Tally, written: bool, n: u32) -> Tally
     ensures { λ r. ⌜ r ≡ withNumber t written n ⌝ }
 {
@@ -87,6 +79,7 @@ fn with_number(t: Tally, written: bool, n: u32) -> Tally
     }
 }
 
+// A difference counted, if a write was not as it should be.
 fn with_judged(t: Tally, same: bool) -> Tally
     ensures { λ r. ⌜ r ≡ withJudged t same ⌝ }
 {
@@ -98,6 +91,7 @@ fn with_judged(t: Tally, same: bool) -> Tally
     u
 }
 
+// A write counted.
 fn with_call(t: Tally) -> Tally
     ensures { λ r. ⌜ r ≡ withCall t ⌝ }
 {
@@ -106,6 +100,7 @@ fn with_call(t: Tally) -> Tally
     u
 }
 
+// A write counted by what was seen of it.
 fn with(t: Tally, seen: Seen) -> Tally
     ensures { λ r. ⌜ r ≡ withSeen t seen ⌝ }
 {
