@@ -126,7 +126,7 @@ fn full_al(l: Layout) -> u8
 }
 
 // Whether a refusal is right: there is no legal outcome, and the codes say why.
-fn refused_right(l: Layout, o: Outcome, ah: u8, al: u8, status: u8) -> bool
+fn refused_right(l: Layout, o: Outcome, ah: u8, al: u8, status: u32) -> bool
     ensures { λ r. ⌜ r ≡ refusedRight l o ah al status ⌝ }
 {
     if o.found {
