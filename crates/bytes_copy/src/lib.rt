@@ -19,8 +19,8 @@ pub fn fill(dst: &mut [u8], from: usize, count: usize)
 // The most bytes that are put at once.
 pub const MOST_BYTES: usize = 32768;
 
-// The first `n` bytes of `src` are put at `at`. They go by way of a local array: for all that the compiler knows two slices might overlap, a
-// local can't, and so it makes one move of the two loops and leaves the local out.
+// The first `n` bytes of `src` are put at `at`. They go by way of a local array: for all that the compiler knows two slices might overlap,
+// a local can't, and so it makes one move of the two loops and leaves the local out.
 pub fn put(dst: &mut [u8], at: usize, src: &[u8], n: usize)
     requires { ⌜ (at + n ≤ length (now dst)) × (n ≤ length (now src)) × (n ≤ 32768) ⌝ }
     ensures { λ _. ⌜ now (dst .exit) ≡ putAt (now (dst .entry)) at (now (src .entry)) n ⌝ }

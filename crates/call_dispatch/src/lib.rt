@@ -52,7 +52,8 @@ pub fn call(
     ensures copies { λ r. ⌜ now (destination .exit) ≡ callDestination (inputsOf function sub task block loading (now (store .entry))
         (now (signatures .entry)) (now (platforms .entry)) (now (candidate .entry)) back (now (destination .entry))) ⌝ }
     ensures demand { λ r. ⌜ Demand1 (inputsOf function sub task block loading (now (store .entry)) (now (signatures .entry))
-        (now (platforms .entry)) (now (candidate .entry)) back (now (destination .entry))) r (now (store .exit)) (now (destination .exit)) ⌝ }
+        (now (platforms .entry)) (now (candidate .entry)) back (now (destination .entry))) r (now (store .exit))
+        (now (destination .exit)) ⌝ }
 {
     if function != FUNCTION {
         return not_implemented(loading);

@@ -10,7 +10,7 @@ use lib.Dec.{leb}
 use borrow.Author.Tests.{leb-true, leb-false}
 use Rattle.test_all_outcomes.specs.declared.layout.Layout.{Layout}
 use Rattle.test_all_outcomes.specs.declared.outcomes.Outcome.{Outcome}
-use Rattle.test_all_outcomes.specs.TriedOutcomes.{numbered, legal, outcome, noWorse, better, bestAt, none, bestTo, best}
+use Rattle.test_all_outcomes.specs.TriedOutcomes.{numbered, noWorse, better, bestAt, none, bestTo, best}
 use Rattle.test_all_outcomes.specs.BestOutcome.{legalAt, emptiedBy, outcomeAt, FirstFewest, BestBelow, Best}
 
 module _ (l : Layout) (n c : ℕ) where

@@ -1,5 +1,5 @@
-// A view of an update: a struct that holds a reference to the update's bytes, and thin functions that give its header fields, its sizes and its
-// data. Each takes the view apart and calls a function of a plain slice. A caller that wants the numbers by value calls `summary`.
+// A view of an update: a struct that holds a reference to the update's bytes, and thin functions that give its header fields, its sizes and
+// its data. Each takes the view apart and calls a function of a plain slice. A caller that wants the numbers by value calls `summary`.
 ghost use mathlib.Core.Path.{_≡_};
 ghost use lib.ListN.{length};
 ghost use Rattle.update_header.specs.DataPart.{dataPart};

@@ -117,8 +117,8 @@ pub fn shared(shares: &[bool; MOST_BLOCKS], count: usize) -> u32
     sharing
 }
 
-// Marks the updates that must be filled with FFh if the candidate goes to `s`: those that are emptied, but for those that the run overwrites
-// whole.
+// Marks the updates that must be filled with FFh if the candidate goes to `s`: those that are emptied, but for those that the run
+// overwrites whole.
 pub fn to_fill<'a>(
     starts: &'a [u8; MOST_BLOCKS],
     sizes: &'a [u8; MOST_BLOCKS],

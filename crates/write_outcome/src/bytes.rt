@@ -38,8 +38,8 @@ fn empty_marked<'a>(
     }
 }
 
-// All the bytes of a write: the marked ones of the first `count` entries are emptied, and the candidate's `t` bytes stand at block `start`, FFh
-// behind them to the end of its last block.
+// All the bytes of a write: the marked ones of the first `count` entries are emptied, and the candidate's `t` bytes stand at block `start`,
+// FFh behind them to the end of its last block.
 pub fn write_bytes<'a>(
     store: &mut [u8],
     starts: &'a [u8; MOST_BLOCKS],

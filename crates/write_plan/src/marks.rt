@@ -51,8 +51,8 @@ pub fn mark(
     }
 }
 
-// Check 6: does some stored update share a processor with the candidate, with a revision that is equal or greater? The scan of its pairs and
-// the candidate's leaves at the first two that share; an older update isn't compared.
+// Check 6: does some stored update share a processor with the candidate, with a revision that is equal or greater? The scan of its pairs
+// and the candidate's leaves at the first two that share; an older update isn't compared.
 pub fn outdated(store: &[u8], d: Directory, candidate: &[u8], pairs: Pairs) -> bool
     requires { ⌜ (d ≡ directory (now store)) × (pairs ≡ pairsOf (now candidate)) ⌝ }
     ensures { λ r. ⌜ r ≡ outdated (now (store .entry)) (now (candidate .entry)) ⌝ }

@@ -1,6 +1,5 @@
 -- `update_coverage::judged_pairs` meets its contract: an update with pairs has right sizes, so its header is lent.
 use native.Mathlib.Omega.{arith}
-use Prim.Native.Nat.{_≤_}
 use Rattle.update_coverage.specs.Covers.{flagsOffset, flagsAt, platformsAt}
 use Rattle.update_coverage.specs.PairLaws.{data-read, total-read, header-lent, judged-few, judged-reading}
 use Rattle.update_coverage.proofs.judged_pairs.Statement.{statement}

@@ -1,9 +1,7 @@
 -- `write_call::write_good` meets its contract: checks 5 and 6, then the marks, checks 7 to 9 and the bytes.
-use mathlib.Core.Path.{ap, _∙_}
 use native.Mathlib.Omega.{arith}
 use Rattle.processor_list.specs.ListLaws.{list-few, list-same}
 use Rattle.store_directory.specs.ValidLaws.{blocks-few}
-use Rattle.write_call.specs.Write.{answered, bytesAfter}
 use Rattle.write_call.specs.CandidateSizeLaws.{total-is, pairs-are}
 use Rattle.write_call.specs.PlanCases.{good-absent, good-outdated, good-marked}
 use Rattle.write_call.specs.Storing.{planned-storable}
