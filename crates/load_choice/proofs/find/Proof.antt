@@ -21,7 +21,7 @@ judged-pairs-requires : tie.Need-judged-pairs-requires Inv-loop μ-loop
 judged-pairs-requires c κs =
     let w = c .before in
     let l = w .before .before in
-    rw (c .from-block .ensures, w .wide .ensures .0) (directory-pairs _ _ (l .before .before .before .pre .0) (l .before .loop .i) (l .loop-test .taken))
+    rw (c .from-block .ensures, w .wide .ensures .0) (directory-pairs _ _ (l .before .before .before .pre .0) (l .before .loop .i) (omega (arith, l .loop-test .taken)))
 
 loop-again : tie.Need-loop-again Inv-loop μ-loop
 loop-again c =
