@@ -61,7 +61,7 @@ pub clash-apart : (s xs a : List ℕ) (i j : ℕ) (p q : Pairs) (r : Bool) → a
     → r ≡ true → anyBelow j (clashAt s xs i) ≡ false → anyBelow (j + 1) (clashAt s xs i) ≡ false
 unfolding pairsAt
 clash-apart s xs a i j p q r b e f h t k =
-    clash-more s xs a (fromBlock s (getD xs j 0)) i j false b refl (headers-apart a (fromBlock s (getD xs j 0)) p q r e f h t) k refl
+    clash-more s xs a (fromBlock s (getD xs j 0)) i j false b refl (headers-apart a (fromBlock s (getD xs j 0)) p q e f r h t) k refl
 
 module _ (s xs : List ℕ) (i : ℕ) (q : anyBelow i (clashRow s xs) ≡ false) where
   pub row-more : (j : ℕ) → anyBelow j (clashAt s xs i) ≡ false → j ≤ i → i ≤ j → anyBelow (i + 1) (clashRow s xs) ≡ false

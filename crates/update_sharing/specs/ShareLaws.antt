@@ -3,7 +3,7 @@
 --   common-and     two bytes of flags have a common platform exactly if their `and` isn't 0
 --   meets          the nested scan of pairs, as `search` takes it
 --   apartness      the tests of two readings, as `search` takes them
---   headers-apart  two updates that have the header's pair alone, by the readings of their headers
+--   one-pair, headers-apart    two updates that have the header's pair alone, by the readings of their headers
 use Prim.Native.Nat.{ℕ, _+_, _%_, _<_}
 use mathlib.Core.Path.{_≡_, refl, sym, ap, _∙_}
 use mathlib.Core.Bool.{Bool, true, false, not, _&&_}
@@ -12,7 +12,7 @@ use mathlib.Core.Logic.{_↔_}
 use native.Mathlib.Omega.{arith}
 use lib.Dec.{eqb}
 use lib.Bits.{bitAnd, and-le-l}
-use borrow.Author.Tests.{eq-eqb, ne-eqb, eqb-true, lt-ltb, not-true}
+use borrow.Author.Tests.{eq-eqb, eqb-true, lt-ltb, not-true}
 use Rattle.laws.specs.Bools.{and-parts, and-made}
 use Rattle.laws.specs.Below.{anyBelow, rows, any-more, any-stop, any-at, any-false, any-cong}
 use Rattle.laws.specs.Count.{countBelow, count-zero}
@@ -20,8 +20,9 @@ use Rattle.laws.specs.Loops.{scan-more, nest-stop}
 use Rattle.laws.specs.LowByte.{bothBit, common-bit}
 use Rattle.update_coverage.specs.Covers.{pairCount, pairsOf, signatureAt, platformsAt, names}
 use Rattle.update_coverage.specs.declared.Pairs.{Pairs}
+use Rattle.update_coverage.specs.PairLaws.{count-is}
 use Rattle.update_coverage.specs.CoverLaws.{names-parts, covers-at, covers-made}
-use Rattle.update_sharing.specs.Shares.{bothName, common, pairShares, sharesAt, hasSignature, headersApart, shares, Shares}
+use Rattle.update_sharing.specs.Shares.{bothName, common, pairShares, sharesAt, hasSignature, bothAlone, headersApart, shares, Shares}
 
 common-made : (f g p : ℕ) → names f p ≡ true → names g p ≡ true → common f g ≡ true
 unfolding common bothName
@@ -98,35 +99,41 @@ pub none-alike : (a b : List ℕ) (i x c : ℕ) → x ≡ signatureAt a i → c 
 unfolding rows
 none-alike a b i x c e h z k = any-more (rows (pairCount b) (sharesAt a b)) i k (any-false (sharesAt a b i) (pairCount b) (λ j l. apart a b i j x e (count-zero (hasSignature x b) (pairCount b) j (sym h ∙ z) l)))
 
--- two updates with one pair each, by the readings of their headers: r is what a call answered of them
-pub headers-apart : (a b : List ℕ) (p q : Pairs) (r : Bool) → p ≡ pairsOf a → q ≡ pairsOf b → r ≡ headersApart p q → r ≡ true → false ≡ shares a b
-unfolding headersApart pairsOf shares rows sharesAt anyBelow
-headers-apart a b p q r e f h t =
-    let x : headersApart (pairsOf a) (pairsOf b) ≡ true = sym (ap (λ (z : Pairs). headersApart z q) e ∙ ap (headersApart (pairsOf a)) f) ∙ sym h ∙ t in
-    let y = and-parts (eqb (pairCount a) 1) (eqb (pairCount b) 1 && not (sharesAt a b 0 0)) x in
-    let z = and-parts (eqb (pairCount b) 1) (not (sharesAt a b 0 0)) (y .1) in
-    rw (eqb-true (pairCount a) 1 (y .0), eqb-true (pairCount b) 1 (z .0)) (sym (not-true (sharesAt a b 0 0) (z .1)))
+-- two updates with one pair each, by the readings of their headers: n is what a call answered of their numbers
+module _ (a b : List ℕ) (p q : Pairs) (e : p ≡ pairsOf a) (f : q ≡ pairsOf b) where
+  -- r is what a call answered of the two pairs
+  pub one-pair : (n r : Bool) → n ≡ bothAlone p q → n ≡ true → r ≡ pairShares (p .signature) (p .platforms) (q .signature) (q .platforms) → r ≡ shares a b
+  unfolding bothAlone pairsOf shares rows sharesAt anyBelow
+  one-pair n r k t h =
+      let c = and-parts (eqb (p .count) 1) (eqb (q .count) 1) (sym k ∙ t) in
+      let x : pairCount a ≡ 1 = sym (count-is a p e) ∙ eqb-true (p .count) 1 (c .0) in
+      let y : pairCount b ≡ 1 = sym (count-is b q f) ∙ eqb-true (q .count) 1 (c .1) in
+      h ∙ ap (λ (z : Pairs). pairShares (z .signature) (z .platforms) (q .signature) (q .platforms)) e
+      ∙ ap (λ (z : Pairs). pairShares (signatureAt a 0) (platformsAt a 0) (z .signature) (z .platforms)) f ∙ rw (x, y)
 
--- the tests of two readings, a return at each: r is what a call answered of the two pairs
-module _ (p q : Pairs) where
-  pub more-left : (p .count ≡ 1 → ⊥) → false ≡ headersApart p q
+  -- r is what a call answered of the readings
+  pub headers-apart : (r : Bool) → r ≡ headersApart p q → r ≡ true → false ≡ shares a b
   unfolding headersApart
-  more-left n = rw (ne-eqb (p .count) 1 n)
+  headers-apart r h t =
+      let s = pairShares (p .signature) (p .platforms) (q .signature) (q .platforms) in
+      let y = and-parts (bothAlone p q) (not s) (sym h ∙ t) in
+      one-pair true false (sym (y .0)) refl (sym (not-true s (y .1)))
 
-  module _ (e : p .count ≡ 1) where
-    pub more-right : (q .count ≡ 1 → ⊥) → false ≡ headersApart p q
+-- the tests of two readings, a return at each
+module _ (p q : Pairs) (n : Bool) (k : n ≡ bothAlone p q) where
+  pub not-alone : n ≡ false → false ≡ headersApart p q
+  unfolding headersApart
+  not-alone t = rw (← k, t)
+
+  module _ (t : n ≡ true) (r : Bool) (h : r ≡ pairShares (p .signature) (p .platforms) (q .signature) (q .platforms)) where
+    pub alone-shares : r ≡ true → false ≡ headersApart p q
     unfolding headersApart
-    more-right n = rw (eq-eqb (p .count) 1 e, ne-eqb (q .count) 1 n)
+    alone-shares u = rw (← k, t, ← h, u)
 
-    module _ (f : q .count ≡ 1) (r : Bool) (h : r ≡ pairShares (p .signature) (p .platforms) (q .signature) (q .platforms)) where
-      pub one-shares : r ≡ true → false ≡ headersApart p q
-      unfolding headersApart
-      one-shares t = rw (eq-eqb (p .count) 1 e, eq-eqb (q .count) 1 f, ← h, t)
+    pub alone-apart : r ≡ false → true ≡ headersApart p q
+    unfolding headersApart
+    alone-apart u = rw (← k, t, ← h, u)
 
-      pub one-apart : r ≡ false → true ≡ headersApart p q
-      unfolding headersApart
-      one-apart t = rw (eq-eqb (p .count) 1 e, eq-eqb (q .count) 1 f, ← h, t)
-
-pub ruleset apartness = (more-left, more-right, one-shares, one-apart)
+pub ruleset apartness = (not-alone, alone-shares, alone-apart)
 
 pub ruleset meets = (share-more, share-stop, none-alike)

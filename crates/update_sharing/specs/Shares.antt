@@ -2,7 +2,8 @@
 --   bothName, common        two flags name platform p; they name a common one
 --   pairShares, sharesAt    two pairs have the same signature and a common platform; pair i of a and pair j of b do
 --   hasSignature            pair j has signature x
---   headersApart            two readings of headers tell that each update has one pair, and that these don't share
+--   bothAlone               by the readings of two headers each update has one pair
+--   headersApart            and these don't share
 --   shares                  some pair of a and some pair of b share
 --   Shares                  there is a processor that both cover; `ShareLaws` joins the two
 use Prim.Native.Nat.{ℕ, _<_}
@@ -30,8 +31,11 @@ sharesAt a b i j = pairShares (signatureAt a i) (platformsAt a i) (signatureAt b
 unfoldable pub hasSignature : ℕ → List ℕ → ℕ → Bool
 hasSignature x s j = eqb x (signatureAt s j)
 
+unfoldable pub bothAlone : Pairs → Pairs → Bool
+bothAlone p q = eqb (p .count) 1 && eqb (q .count) 1
+
 unfoldable pub headersApart : Pairs → Pairs → Bool
-headersApart p q = eqb (p .count) 1 && (eqb (q .count) 1 && not (pairShares (p .signature) (p .platforms) (q .signature) (q .platforms)))
+headersApart p q = bothAlone p q && not (pairShares (p .signature) (p .platforms) (q .signature) (q .platforms))
 
 unfoldable pub shares : List ℕ → List ℕ → Bool
 shares a b = anyBelow (pairCount a) (rows (pairCount b) (sharesAt a b))

@@ -3,7 +3,7 @@ ghost use mathlib.Core.Path.{_≡_};
 ghost use Prim.Native.Nat.{_<_};
 ghost use Rattle.update_coverage.specs.Covers.{pairCount, pairsOf, signatureAt, platformsAt};
 ghost use Rattle.laws.specs.Count.{countBelow};
-ghost use Rattle.update_sharing.specs.Shares.{common, pairShares, hasSignature, headersApart, shares};
+ghost use Rattle.update_sharing.specs.Shares.{common, pairShares, hasSignature, bothAlone, headersApart, shares};
 use update_coverage::Pairs;
 
 fn common(f: u8, g: u8) -> bool
@@ -83,33 +83,36 @@ pub fn pairs_share(a: &[u8], p: Pairs, b: &[u8], q: Pairs) -> bool
     found
 }
 
-// Most updates have the header's pair alone: for two such the readings tell whether they share, and their bytes needn't be looked at. Is
-// it so, and do they not?
+// Most updates have the header's pair alone, and of two such the readings tell whether they share: their bytes needn't be looked at. Are
+// they two such?
+fn both_alone(p: Pairs, q: Pairs) -> bool
+    ensures { λ r. ⌜ r ≡ bothAlone p q ⌝ }
+{
+    if p.count == 1 { q.count == 1 } else { false }
+}
+
+// Are they two such that don't share?
 pub fn headers_apart(p: Pairs, q: Pairs) -> bool
     ensures { λ r. ⌜ r ≡ headersApart p q ⌝ }
 {
-    if p.count == 1 {
-        if q.count == 1 {
-            if pair_shares(p.signature, p.platforms, q.signature, q.platforms) {
-                false
-            } else {
-                true
-            }
-        } else {
+    if both_alone(p, q) {
+        if pair_shares(p.signature, p.platforms, q.signature, q.platforms) {
             false
+        } else {
+            true
         }
     } else {
         false
     }
 }
 
-// The same as `pairs_share`, with a look at the readings first.
+// The same as `pairs_share`; where each has one pair the readings tell.
 pub fn shares_with(a: &[u8], p: Pairs, b: &[u8], q: Pairs) -> bool
     requires { ⌜ (p ≡ pairsOf (now a)) × (q ≡ pairsOf (now b)) ⌝ }
     ensures { λ r. ⌜ r ≡ shares (now (a .entry)) (now (b .entry)) ⌝ }
 {
-    if headers_apart(p, q) {
-        false
+    if both_alone(p, q) {
+        pair_shares(p.signature, p.platforms, q.signature, q.platforms)
     } else {
         pairs_share(a, p, b, q)
     }

@@ -8,7 +8,7 @@ headers-apart-spec =
     tie.close
     (tie.spec
     (λ c κs. tt)
-    (λ c. search apartness)
+    (λ c κs. tt)
     (λ c. search apartness)
     (λ c. search apartness)
     (λ c. search apartness))
