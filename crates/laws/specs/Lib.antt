@@ -11,5 +11,7 @@ pub mod Least
 pub mod Arrays
 pub mod Unless
 pub mod Tests
+pub mod Bits
 pub mod LowByte
 pub mod Same
+pub mod Tabulate

@@ -1,5 +1,4 @@
 -- The low eight bits of a number.
---   bit            bit k of a number, as a Bool
 --   bothBit        both of two numbers have it
 --   bit-low        below 8, the low byte has the number's bit
 --   common-bit     two numbers have a common one among their low eight bits exactly if the low byte of their `and` isn't 0
@@ -13,9 +12,7 @@ use lib.Bits.{bitAnd, and-step, and-shr}
 use borrow.Author.Tests.{eqb-true, eqb-false}
 use Rattle.laws.specs.Bools.{and-parts, no-true, no-false}
 use Rattle.laws.specs.Below.{anyBelow, any-fails, any-false}
-
-unfoldable pub bit : ℕ → ℕ → Bool
-bit x k = eqb (x / 2 ^ k % 2) 1
+use Rattle.laws.specs.Bits.{bit}
 
 -- both have bit k
 unfoldable pub bothBit : ℕ → ℕ → ℕ → Bool

@@ -1,6 +1,7 @@
 -- What the directory of a valid store lists: the laws by which the layers above use it.
 --   Listing      each entry is a stored update, in order; each stored update is an entry
 --   listing      of the directory of a valid store
+--   kind-owned   a block of an update is its first or a later one
 --   kind-free    a block that no update owns is free
 --   kind-law     the kind of a block by the directory is its kind in the store
 use Prim.Native.Nat.{ℕ, _+_, _-_, _<_, _≤_}
@@ -83,7 +84,7 @@ module _ (s : List ℕ) (ok : storeOk s ≡ true) where
         spans-law (startOf d i) (sizeOf d i) b .1 (record { from = omega (arith, o .from); upto = rw (entries .sized i m) (rw q (o .upto)) })
 
     -- an owned block is the first of its owner or a later one
-    kind-owned : (a : ℕ) → Owned s (first s) a b → kindIf a (sizeAt s a) b ≡ kindAt s b
+    pub kind-owned : (a : ℕ) → Owned s (first s) a b → kindIf a (sizeAt s a) b ≡ kindAt s b
     unfolding kindIf kindAt first
     kind-owned a o =
         let f = first-parts s a (o .at) in

@@ -13,7 +13,7 @@ use Rattle.laws.specs.Below.{allBelow, anyBelow}
 use Rattle.laws.specs.Count.{countBelow}
 use Rattle.laws.specs.Least.{least}
 use Rattle.laws.specs.Unless.{unless}
-use Rattle.laws.specs.LowByte.{bit}
+use Rattle.laws.specs.Bits.{bit}
 use Rattle.bytes_dwords.specs.Dword.{little, dword}
 use Rattle.bytes_dwords.specs.Sum.{dwordsOf, total, dwordSum}
 use Rattle.update_sizes.specs.Sizes.{dataSizeOf, totalSizeOf, sizesOk, entriesOf, blocksOf, entryOffset}

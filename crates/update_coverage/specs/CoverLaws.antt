@@ -11,7 +11,8 @@ use lib.Dec.{ltb, eqb}
 use borrow.Author.Tests.{eq-eqb, eqb-true, lt-ltb, ltb-true}
 use Rattle.laws.specs.Bools.{and-parts}
 use Rattle.laws.specs.Below.{any-stop, any-at}
-use Rattle.laws.specs.LowByte.{bit, bit-low}
+use Rattle.laws.specs.Bits.{bit}
+use Rattle.laws.specs.LowByte.{bit-low}
 use Rattle.update_coverage.specs.Covers.{pairCount, signatureAt, flagsAt, platformsAt, names, pairCovers, coversAt, covers, Covers}
 
 pub names-parts : (f p : ℕ) → names f p ≡ true → (p < 8) × (bit f p ≡ true)

@@ -16,7 +16,7 @@ use mathlib.Core.List.{List}
 use lib.Dec.{ltb, eqb}
 use Rattle.laws.specs.Below.{anyBelow}
 use Rattle.laws.specs.Unless.{unless}
-use Rattle.laws.specs.LowByte.{bit}
+use Rattle.laws.specs.Bits.{bit}
 use Rattle.bytes_dwords.specs.Dword.{dword}
 use Rattle.update_header.specs.Fields.{dataSize, entryCount}
 use Rattle.update_sizes.specs.Sizes.{entryOffset}

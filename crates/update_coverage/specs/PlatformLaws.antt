@@ -11,7 +11,7 @@ use borrow.Author.Tests.{eqb-true}
 use Rattle.laws.specs.Below.{allBelow, all-at}
 use Rattle.laws.specs.Count.{countBelow}
 use Rattle.laws.specs.First.{firstBelow}
-use Rattle.laws.specs.LowByte.{bit}
+use Rattle.laws.specs.Bits.{bit}
 use Rattle.update_coverage.specs.Covers.{platformsAt, names}
 use Rattle.update_coverage.specs.Platforms.{platformCount, lowestPlatform}
 

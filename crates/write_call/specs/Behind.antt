@@ -11,6 +11,7 @@ use native.Mathlib.Omega.{arith}
 use lib.ListN.{length, getD}
 use lib.Dec.{ltb}
 use borrow.Author.Tests.{ltb-true}
+use Rattle.laws.specs.Tabulate.{tabulate}
 use Rattle.laws.specs.Bools.{bool-same}
 use Rattle.laws.specs.Below.{any-cong}
 use Rattle.laws.specs.Same.{Same, same-less}
@@ -30,7 +31,7 @@ use Rattle.store_directory.specs.Scan.{directory}
 use Rattle.processor_list.specs.Processors.{ProcessorList, coversListed, coversOne, neededFor, isNeeded}
 use Rattle.write_placement.specs.Choose.{choose}
 use Rattle.write_placement.specs.Agree.{Agree, choose-same, both-marks-same}
-use Rattle.write_outcome.specs.OutcomeBytes.{tabulate, runByte, outcomeByte, outcomeBytes}
+use Rattle.write_outcome.specs.OutcomeBytes.{runByte, outcomeByte, outcomeBytes}
 use Rattle.write_plan.specs.CandidateMarks.{updateAt, sharesEntry, neededEntry, storedUpdates, outdates, outdated}
 use Rattle.write_plan.specs.PlanLaws.{placed-same}
 use Rattle.write_plan.specs.declared.Plan.{Plan}

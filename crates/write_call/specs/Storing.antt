@@ -11,6 +11,7 @@ use mathlib.Core.Bool.{Bool, true, false, _&&_, true≢false}
 use lib.Dec.{leb}
 use borrow.Author.Tests.{leb-true}
 use Rattle.processor_list.specs.Processors.{ProcessorList}
+use Rattle.laws.specs.Tabulate.{getD-tabulate}
 use Rattle.laws.specs.Bools.{and-parts, no-true}
 use mathlib.Core.List.{List, []}
 use native.Mathlib.Omega.{arith}
@@ -30,7 +31,7 @@ use Rattle.write_marks.specs.Against.{touchesByNumber, emptiedByNumber, within,
 use Rattle.write_marks.specs.StoredMarks.{storedOf, marksOf}
 use Rattle.write_marks.specs.declared.Marked.{Marked}
 use Rattle.write_outcome.specs.OutcomeBytes.{inRun, clearedByte, outcomeByte, outcomeBytes}
-use Rattle.write_outcome.specs.ByteLaws.{emptied-same, at-run, outcome-length, getD-tabulate}
+use Rattle.write_outcome.specs.ByteLaws.{emptied-same, at-run, outcome-length}
 use Rattle.write_outcome.specs.EmptiedEntries.{marked, Entries, entries-of, marked-at}
 use Rattle.write_plan.specs.declared.Plan.{Plan}
 use Rattle.write_plan.specs.declared.Plan.the-variants.{Run}

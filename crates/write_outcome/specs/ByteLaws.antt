@@ -1,5 +1,4 @@
 -- Laws of an outcome's bytes.
---   length-tabulate, getD-tabulate     what `tabulate` makes
 --   emptied-at, at-emptied             a block is emptied exactly if it has an owner of the set
 --   emptied-same                       the set matters only where it has, or has not, the owner of the block
 --   run-at, at-run, not-run            a block is in the run exactly if it lies between its ends
@@ -18,24 +17,11 @@ use Rattle.laws.specs.Span.{spans, spans-law}
 use Rattle.laws.specs.Bools.{and-parts, no-true}
 use Rattle.laws.specs.Below.{any-at, any-stop, any-cong}
 use Rattle.laws.specs.Unless.{unless}
+use Rattle.laws.specs.Tabulate.{length-tabulate, getD-tabulate}
 use Rattle.update_sizes.specs.Sizes.{blocksOf}
 use Rattle.store_directory.specs.Scan.{sizeAt, first}
 use Rattle.store_directory.specs.Valid.{Owned}
-use Rattle.write_outcome.specs.OutcomeBytes.{tabulate, ownedBy, emptiedAt, inRun, runByte, clearedByte, outcomeByte, outcomeBytes}
-
-pub length-tabulate : (n a : ℕ) (f : ℕ → ℕ) → length (tabulate n a f) ≡ n
-unfolding tabulate
-length-tabulate zero a f = refl
-length-tabulate (suc n) a f = ap suc (length-tabulate n (suc a) f)
-
-tabulate-from : (n a : ℕ) (f : ℕ → ℕ) (i : ℕ) → i < n → getD (tabulate n a f) i 0 ≡ f (a + i)
-unfolding tabulate
-tabulate-from zero a f i l = absurd (not-suc-le-zero l)
-tabulate-from (suc n) a f zero l = rw (add-zero a)
-tabulate-from (suc n) a f (suc i) l = tabulate-from n (suc a) f i (omega arith) ∙ ap f (let e : suc a + i ≡ a + suc i = omega arith in e)
-
-pub getD-tabulate : (n : ℕ) (f : ℕ → ℕ) (i : ℕ) → i < n → getD (tabulate n 0 f) i 0 ≡ f i
-getD-tabulate n f i l = tabulate-from n 0 f i l ∙ ap f (let e : 0 + i ≡ i = omega arith in e)
+use Rattle.write_outcome.specs.OutcomeBytes.{ownedBy, emptiedAt, inRun, runByte, clearedByte, outcomeByte, outcomeBytes}
 
 module _ (s : List ℕ) where
   -- the update at b, of whatever set, has block c

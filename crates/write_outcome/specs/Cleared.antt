@@ -17,11 +17,12 @@ use borrow.Author.Tests.{lt-ltb, le-ltb}
 use Rattle.laws.specs.Bools.{no-true}
 use Rattle.laws.specs.Orders.{le-or-lt}
 use Rattle.laws.specs.Unless.{unless}
+use Rattle.laws.specs.Tabulate.{tabulate, length-tabulate, getD-tabulate}
 use Rattle.bytes_copy.specs.Paste.{putAt, fillAt, put-long, put-low, put-mid, put-high, fill-long, fill-out, fill-mid}
 use Rattle.update_sizes.specs.Sizes.{blocksOf}
 use Rattle.store_directory.specs.Scan.{sizeAt, first}
-use Rattle.write_outcome.specs.OutcomeBytes.{tabulate, emptiedAt, runByte, clearedByte, outcomeBytes}
-use Rattle.write_outcome.specs.ByteLaws.{length-tabulate, getD-tabulate, emptied-at, at-emptied, emptied-same, at-run, not-run, outcome-length, outcome-run, outcome-out}
+use Rattle.write_outcome.specs.OutcomeBytes.{emptiedAt, runByte, clearedByte, outcomeBytes}
+use Rattle.write_outcome.specs.ByteLaws.{emptied-at, at-emptied, emptied-same, at-run, not-run, outcome-length, outcome-run, outcome-out}
 
 unfoldable pub cleared : List ℕ → (ℕ → Bool) → List ℕ
 cleared old e = tabulate (length old) 0 (clearedByte old e)

@@ -1,6 +1,5 @@
 -- The bytes of an outcome (document 01, "The words of demand 3"): the old store's, with all blocks of the emptied updates filled with FFh, then
 -- the candidate's T bytes put at the start and FFh behind them to the end of the run.
---   tabulate         f a, f (a + 1), .., n numbers in all
 --   ownedBy          block c belongs to the stored update at block b, one of the set e
 --   emptiedAt        block c belongs to a stored update of the set e
 --   inRun            block c is one of the k from the start on
@@ -8,20 +7,17 @@
 --   clearedByte      byte i with the updates of e emptied
 --   outcomeByte      byte i of the outcome: the run's in the run, elsewhere the cleared one
 --   outcomeBytes     the whole store, byte by byte
-use Prim.Native.Nat.{ℕ, zero, suc, _*_, _-_, _/_}
+use Prim.Native.Nat.{ℕ, suc, _*_, _-_, _/_}
 use mathlib.Core.Bool.{Bool, _&&_}
-use mathlib.Core.List.{List, [], _∷_}
+use mathlib.Core.List.{List}
 use lib.ListN.{length, getD}
 use lib.Dec.{ltb}
 use Rattle.laws.specs.Below.{anyBelow}
 use Rattle.laws.specs.Span.{spans}
 use Rattle.laws.specs.Unless.{unless}
+use Rattle.laws.specs.Tabulate.{tabulate}
 use Rattle.update_sizes.specs.Sizes.{blocksOf}
 use Rattle.store_directory.specs.Scan.{first, sizeAt}
-
-unfoldable pub tabulate : ℕ → ℕ → (ℕ → ℕ) → List ℕ
-tabulate zero a f = []
-tabulate (suc n) a f = f a ∷ tabulate n (suc a) f
 
 -- block c belongs to the update that begins at block b, which is of the set e
 unfoldable pub ownedBy : List ℕ → (ℕ → Bool) → ℕ → ℕ → Bool
