@@ -14,7 +14,8 @@ pub enum Kind {
     Later,
 }
 
-fn owns(start: u32, size: u32, b: u32) -> bool
+// Is block `b` one of the `size` blocks from `start` on? The end doesn't wrap.
+pub fn owns(start: u32, size: u32, b: u32) -> bool
     ensures { λ r. ⌜ r ≡ spans start size b ⌝ }
 {
     if start <= b {
