@@ -1,14 +1,16 @@
 -- Laws of the read: the cases of the plan, and that what is copied fits, is there, and is at most 16 blocks.
 --   kinds             the plan by the kind, as `search` takes it
 --   read-bad, read-number, read-kind    the order of the codes
---   Copies, copies    what a plan to copy says
+--   copyable          what the plan of a read may rely on
+--   copied-long       the destination keeps its length
 --   copying           the copy, the answer and the destination afterwards, as `search` takes them
 use Prim.Native.Nat.{ℕ, _+_, _*_, _/_, _<_, _≤_}
 use mathlib.Core.Path.{_≡_, refl, sym, _∙_}
 use mathlib.Core.Bool.{Bool, true, false}
 use mathlib.Core.List.{List}
 use native.Mathlib.Omega.{arith}
-use lib.ListN.{length}
+use lib.ListN.{length, take, drop, length-append, length-drop}
+use lib.Seq.{length-take-le}
 use lib.Dec.{leb, ltb}
 use borrow.Author.Tests.{lt-ltb, le-ltb, leb-true}
 use Rattle.laws.specs.Orders.{impossible}
@@ -30,7 +32,8 @@ use Rattle.call_answers.specs.Answers.{refusal}
 use Rattle.call_answers.specs.declared.answer.Answer.{Answer}
 use Rattle.call_reads.specs.declared.read.ReadPlan.{ReadPlan}
 use Rattle.call_reads.specs.declared.read.ReadPlan.the-variants.{Copy, Refuse}
-use Rattle.call_reads.specs.Read.{readBlocks, readKind, readPlan, answered, copied, readAnswer, readBytes}
+use Rattle.call_reads.specs.Read.{readBlocks, readKind, readPlan, answered, copied}
+use Rattle.call_reads.specs.CopyBounds.{Copies, Copyable}
 
 -- the plan by the kind, where r is the kind that a call gave
 module _ (r : Kind) (m : ℕ) where
@@ -70,13 +73,6 @@ unfolding unless
 passed true ah al k rest e = (refl, e)
 passed false ah al k rest e = absurd (impossible (cc))
 
--- k blocks are copied into m bytes
-pub record Copies (s : List ℕ) (b m k : ℕ) : Type 0 where
-  -- they fit, are there, and are at most 16
-  pub fit : k * 2048 ≤ m
-  pub there : k * 2048 ≤ length (fromBlock s b)
-  pub few : k ≤ 16
-
 module _ (s : List ℕ) (b m k : ℕ) where
   -- j blocks are wanted
   wanted : (j : ℕ) → readBlocks j m ≡ Copy k → (j ≡ k) × (k * 2048 ≤ m)
@@ -99,41 +95,54 @@ module _ (s : List ℕ) (b m k : ℕ) where
   by-kind true Bad q e = absurd (impossible (cc))
   by-kind false x q e = absurd (impossible (cc))
 
-  -- p is the plan that a call gave
-  pub copies : (p : ReadPlan) → p ≡ readPlan s b m → p ≡ Copy k → Copies s b m k
+  -- the plan of a read
+  plan-copies : readPlan s b m ≡ Copy k → Copies s b m k
   unfolding readPlan kindAt
-  copies p e h =
-      let f = sym e ∙ h in
+  plan-copies f =
       let x = passed (storeOk s) READ-FAILURE bad-store k _ f in
       let y = passed (ltb b (blockCount s)) UPDATE-NUM-INVALID none k _ (x .1) in
       by-kind (begins s b) (slotAt s b) refl (y .1)
 
--- what calls answered: p is the plan, x the store from the block on, r the destination afterwards
-module _ (s : List ℕ) (b m k : ℕ) (p : ReadPlan) (e : p ≡ readPlan s b m) (h : p ≡ Copy k) where
+pub copyable : (s : List ℕ) (b m : ℕ) (p : ReadPlan) → p ≡ readPlan s b m → Copyable s b m p
+unfolding Copyable
+copyable s b m p e k h = plan-copies s b m k (sym e ∙ h)
+
+-- p is a plan, x the store from the block on, r the destination afterwards
+module _ (s : List ℕ) (b m k : ℕ) (p : ReadPlan) (c : Copyable s b m p) (h : p ≡ Copy k) where
   pub copy-fits : 0 + k * 2048 ≤ m
-  copy-fits = omega (arith, copies s b m k p e h .fit)
+  unfolding Copyable
+  copy-fits = omega (arith, c k h .fit)
 
   pub copy-there : (x : List ℕ) → x ≡ fromBlock s b → k * 2048 ≤ length x
-  copy-there x q = rw q (copies s b m k p e h .there)
+  unfolding Copyable
+  copy-there x q = rw q (c k h .there)
 
   pub copy-short : k * 2048 ≤ 32768
-  copy-short = omega (arith, copies s b m k p e h .few)
+  unfolding Copyable
+  copy-short = omega (arith, c k h .few)
 
-  pub copy-answer : answered (Copy k) ≡ readAnswer s b m
-  unfolding readAnswer
-  copy-answer = rw (← e, h)
+module _ (s d : List ℕ) (b : ℕ) (p : ReadPlan) where
+  pub copy-answer : (k : ℕ) → p ≡ Copy k → answered (Copy k) ≡ answered p
+  copy-answer k h = rw h
 
-module _ (s d : List ℕ) (b : ℕ) (p : ReadPlan) (e : p ≡ readPlan s b (length d)) where
-  pub copy-bytes : (k : ℕ) (x r : List ℕ) → p ≡ Copy k → x ≡ fromBlock s b → r ≡ putAt d 0 x (k * 2048) → r ≡ readBytes s b d
-  unfolding readBytes copied
-  copy-bytes k x r h q c = c ∙ put-first d x (k * 2048) ∙ rw (q, ← e, h)
+  pub copy-bytes : (k : ℕ) (x r : List ℕ) → p ≡ Copy k → x ≡ fromBlock s b → r ≡ putAt d 0 x (k * 2048) → r ≡ copied s b d p
+  unfolding copied
+  copy-bytes k x r h q c = c ∙ put-first d x (k * 2048) ∙ rw (q, h)
 
-  pub refuse-answer : (ah al : ℕ) (z : Answer) → p ≡ Refuse ah al → z ≡ refusal ah al → z ≡ readAnswer s b (length d)
-  unfolding readAnswer answered
-  refuse-answer ah al z h q = q ∙ rw (← e, h)
+  pub refuse-answer : (ah al : ℕ) (z : Answer) → p ≡ Refuse ah al → z ≡ refusal ah al → z ≡ answered p
+  unfolding answered
+  refuse-answer ah al z h q = q ∙ rw h
 
-  pub refuse-bytes : (ah al : ℕ) → p ≡ Refuse ah al → d ≡ readBytes s b d
-  unfolding readBytes copied
-  refuse-bytes ah al h = rw (← e, h)
+  pub refuse-bytes : (ah al : ℕ) → p ≡ Refuse ah al → d ≡ copied s b d p
+  unfolding copied
+  refuse-bytes ah al h = rw h
 
 pub ruleset copying = (copy-fits, copy-there, copy-short, copy-answer, copy-bytes, refuse-answer, refuse-bytes)
+
+-- the destination keeps its length
+pub copied-long : (s d : List ℕ) (b : ℕ) (p : ReadPlan) → Copyable s b (length d) p → length (copied s b d p) ≡ length d
+unfolding copied Copyable
+copied-long s d b (Copy k) c =
+    let w = c k refl in
+    omega (arith, length-append (take (k * 2048) (fromBlock s b)) (drop (k * 2048) d), length-take-le (k * 2048) (fromBlock s b) (w .there), length-drop (k * 2048) d, w .fit)
+copied-long s d b (Refuse ah al) c = refl

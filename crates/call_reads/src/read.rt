@@ -1,7 +1,8 @@
 // Sub-function 3, read.
 ghost use mathlib.Core.Path.{_≡_};
 ghost use lib.ListN.{length};
-ghost use Rattle.call_reads.specs.Read.{readBlocks, readKind, readPlan, readAnswer, readBytes};
+ghost use Rattle.call_reads.specs.Read.{readBlocks, readKind, readPlan, answered, copied, readAnswer, readBytes};
+ghost use Rattle.call_reads.specs.CopyBounds.{Copyable};
 use call_answers::answer;
 use call_answers::answer::Answer;
 use call_answers::answer::Read;
@@ -19,7 +20,7 @@ pub enum ReadPlan {
 }
 
 // `k` blocks are to be copied into `lent` bytes.
-fn read_blocks(k: u32, lent: usize) -> ReadPlan
+pub fn read_blocks(k: u32, lent: usize) -> ReadPlan
     ensures { λ r. ⌜ r ≡ readBlocks k lent ⌝ }
 {
     if lent < k as usize * BLOCK {
@@ -68,12 +69,12 @@ fn read_plan(store: &[u8], block: u32, lent: usize) -> ReadPlan
     }
 }
 
-// Copies an unused block, or all blocks of the update that begins at the block. The bytes behind them stay.
-pub fn read(store: &[u8], block: u32, destination: &mut [u8]) -> Answer
-    ensures answers { λ r. ⌜ r ≡ readAnswer (now (store .entry)) block (length (now (destination .entry))) ⌝ }
-    ensures copies { λ r. ⌜ now (destination .exit) ≡ readBytes (now (store .entry)) block (now (destination .entry)) ⌝ }
+// Carries a plan out: copies the blocks, or refuses. The bytes behind the blocks stay.
+pub fn copy_planned(store: &[u8], block: u32, destination: &mut [u8], plan: ReadPlan) -> Answer
+    requires { ⌜ Copyable (now store) block (length (now destination)) plan ⌝ }
+    ensures answers { λ r. ⌜ r ≡ answered plan ⌝ }
+    ensures copies { λ r. ⌜ now (destination .exit) ≡ copied (now (store .entry)) block (now (destination .entry)) plan ⌝ }
 {
-    let plan = read_plan(store, block, destination.len());
     match plan {
         ReadPlan::Copy { blocks } => {
             let from = store_blocks::from_block(store, block);
@@ -87,4 +88,13 @@ pub fn read(store: &[u8], block: u32, destination: &mut [u8]) -> Answer
         }
         ReadPlan::Refuse { ah, al } => answer::refuse(ah, al),
     }
+}
+
+// Copies an unused block, or all blocks of the update that begins at the block. The bytes behind them stay.
+pub fn read(store: &[u8], block: u32, destination: &mut [u8]) -> Answer
+    ensures answers { λ r. ⌜ r ≡ readAnswer (now (store .entry)) block (length (now (destination .entry))) ⌝ }
+    ensures copies { λ r. ⌜ now (destination .exit) ≡ readBytes (now (store .entry)) block (now (destination .entry)) ⌝ }
+{
+    let plan = read_plan(store, block, destination.len());
+    copy_planned(store, block, destination, plan)
 }

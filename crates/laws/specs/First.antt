@@ -2,6 +2,7 @@
 --   firstBelow                 the first, or n where none passes
 --   First, first-is            what the first is
 --   first-found, first-none    it, from a scan
+--   first-cong                 two tests that agree below n
 use Prim.Native.Nat.{ℕ, zero, suc, _<_, _≤_}
 use mathlib.Core.Path.{_≡_, refl, sym, _∙_}
 use mathlib.Core.Bool.{Bool, true, false, cond, true≢false}
@@ -55,3 +56,8 @@ pub first-none : (n : ℕ) (p : ℕ → Bool) → anyBelow n p ≡ false → fir
 first-none n p h =
     let f = first-is n p in
     ⊎-elim (λ q. q) (λ (q : firstBelow n p < n). absurd (true≢false (sym (f .passes q) ∙ any-fails p n (firstBelow n p) h q))) (eq-or-lt-of-le (f .within))
+
+pub first-cong : (p q : ℕ → Bool) (n : ℕ) → ((k : ℕ) → k < n → p k ≡ q k) → firstBelow n p ≡ firstBelow n q
+unfolding firstBelow
+first-cong p q zero h = refl
+first-cong p q (suc n) h = rw (first-cong p q n (λ k l. h k (omega arith)), h n (omega arith))

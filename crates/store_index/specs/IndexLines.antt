@@ -6,7 +6,7 @@
 --   lines-done                  all lines stand: it is the store's index
 use Prim.Native.Nat.{ℕ, _+_, _<_, _≤_}
 use mathlib.Core.Path.{_≡_, refl, sym, ap, _∙_}
-use mathlib.Core.Bool.{Bool, true, false, true≢false}
+use mathlib.Core.Bool.{Bool, true}
 use mathlib.Core.List.{List}
 use mathlib.Core.Logic.{⊎-elim}
 use native.Mathlib.Nat.{eq-or-lt-of-le}
@@ -14,15 +14,13 @@ use native.Mathlib.Omega.{arith}
 use lib.ListN.{length, getD, replicate, length-replicate}
 use lib.Dec.{ltb}
 use borrow.Author.Tests.{lt-ltb, le-ltb}
-use Rattle.laws.specs.Below.{anyBelow, any-at, any-fails}
 use Rattle.laws.specs.Arrays.{filled-none}
 use Rattle.laws.specs.Orders.{le-or-lt}
-use Rattle.laws.specs.Span.{spans, Spans, spans-law}
+use Rattle.laws.specs.Span.{Spans}
 use Rattle.laws.specs.Unless.{unless}
 use Rattle.update_header.specs.Fields.{revision}
 use Rattle.store_blocks.specs.Blocks.{fromBlock, blockCount}
 use Rattle.store_directory.specs.Scan.{first, sizeAt, storeOk, directory}
-use Rattle.store_directory.specs.Kind.{ownsAt}
 use Rattle.store_directory.specs.Valid.{Owned}
 use Rattle.store_directory.specs.DirectoryEntries.{startOf, sizeOf}
 use Rattle.store_directory.specs.StoreLaws.{directory-good}
@@ -33,7 +31,7 @@ use Rattle.store_index.specs.declared.Line.{Line}
 use Rattle.store_index.specs.declared.Index.{Index}
 use Rattle.store_index.specs.Index.{unusedLine, updateLine, storedLine, lineAt, lineIn, lineOf, indexOf}
 use Rattle.store_index.specs.UpdateLines.{Columns, kindFrom, always, Spread}
-use Rattle.store_index.specs.LineLaws.{owned-line, free-line, index-is}
+use Rattle.store_index.specs.LineLaws.{owned-or-free, owned-line, free-line, index-is}
 
 abbrev pub columns : List ℕ → List ℕ → List ℕ → List ℕ → Index
 columns kinds starts revisions sizes = record { kinds = kinds; starts = starts; revisions = revisions; sizes = sizes }
@@ -99,33 +97,23 @@ module _ (s : List ℕ) (d : Directory) (e : d ≡ directory s) (ok : d .ok ≡ 
 
   -- a block by the entries
   module _ (x : Index) (to : LinesTo s d (d .count) x) where
-    owned : (c i : ℕ) → i < d .count → ownsAt d c i ≡ true → Spans (startOf d i) (sizeOf d i) c
-    unfolding ownsAt
-    owned c i l h = spans-law (startOf d i) (sizeOf d i) c .0 h
-
-    unowned : (c i : ℕ) → ownsAt d c i ≡ false → Spans (startOf d i) (sizeOf d i) c → ⊥
-    unfolding ownsAt
-    unowned c i h x = true≢false (sym (spans-law (startOf d i) (sizeOf d i) c .1 x) ∙ h)
-
-    inside-line : (c : ℕ) → c < blockCount s → (t : Bool) → anyBelow (d .count) (ownsAt d c) ≡ t → lineOf x c ≡ lineAt s c
-    inside-line c l true h =
-        let w = any-at (ownsAt d c) (d .count) h in
-        let y = owned c (w .0) (w .1) (w .2) in
-        to .entry (w .0) c (w .1) y
-        ∙ sym (owned-line s good c l (startOf d (w .0)) (record { at = entries .begin (w .0) (w .1); from = y .from; upto = rw (← entries .sized (w .0) (w .1)) (y .upto) }))
-    inside-line c l false h =
-        let none : (i : ℕ) → i < d .count → Spans (startOf d i) (sizeOf d i) c → ⊥ = λ i m. unowned c i (any-fails (ownsAt d c) (d .count) i h m) in
-        to .rest c none
-        ∙ sym (free-line s good c l (λ a o.
+    owned-line-is : (c : ℕ) → c < blockCount s → (a : ℕ) → Owned s (first s) a c → lineOf x c ≡ lineAt s c
+    owned-line-is c l a o =
         let w = entries .every a (omega (arith, o .from)) (o .at) in
-        none (w .0) (w .1) (record { from = omega (arith, o .from, w .2); upto = rw (w .2, entries .sized (w .0) (w .1), w .2) (o .upto) })))
+        to .entry (w .0) c (w .1) (record { from = omega (arith, o .from, w .2); upto = rw (w .2, entries .sized (w .0) (w .1), w .2) (o .upto) })
+        ∙ ap (λ (b : ℕ). storedLine s b c) (w .2) ∙ sym (owned-line s good c l a o)
+
+    free-line-is : (c : ℕ) → c < blockCount s → ((a : ℕ) → Owned s (first s) a c → ⊥) → lineOf x c ≡ lineAt s c
+    free-line-is c l none =
+        to .rest c (λ j m h. none (startOf d j) (record { at = entries .begin j m; from = h .from; upto = rw (← entries .sized j m) (h .upto) }))
+        ∙ sym (free-line s good c l none)
 
     line : (c : ℕ) → lineOf x c ≡ lineIn s c
     unfolding lineIn unless
     line c =
         ⊎-elim
         (λ (l : blockCount s ≤ c). to .rest c (λ j m h. omega (arith, entries .ends j m, h .upto)) ∙ rw (le-ltb c (blockCount s) l))
-        (λ (l : c < blockCount s). inside-line c l (anyBelow (d .count) (ownsAt d c)) refl ∙ rw (lt-ltb c (blockCount s) l))
+        (λ (l : c < blockCount s). ⊎-elim (λ (w : (a : ℕ) × Owned s (first s) a c). owned-line-is c l (w .0) (w .1)) (free-line-is c l) (owned-or-free s good c l) ∙ rw (lt-ltb c (blockCount s) l))
         (le-or-lt (blockCount s) c)
 
     all-lines : x ≡ indexOf s

@@ -5,4 +5,5 @@ pub mod SameIndex
 pub mod SameIndexLaws
 pub mod UpdateLines
 pub mod LineLaws
+pub mod OwnIndex
 pub mod IndexLines

@@ -1,0 +1,59 @@
+-- `call_indexed::read::indexed_plan` meets its contract: the order of the codes.
+use native.Mathlib.Omega.{arith}
+use borrow.Author.Needs.{needs}
+use Rattle.store_index.specs.Index.{lineOf}
+use Rattle.store_index.specs.OwnIndex.{blocks-few}
+use Rattle.call_indexed.specs.IndexedReadLaws.{indexed-bad, indexed-foreign, indexed-number, indexed-line}
+use Rattle.call_indexed.proofs.read.indexed_plan.Statement.{statement}
+use Rattle.call_indexed.proofs.read.indexed_plan.Tie as tie
+
+element-copy-out-line-plan : tie.Need-element-copy-out-line-plan
+element-copy-out-line-plan c =
+    let t = c .before .before .before .before in
+    omega (arith, c .if3 .taken, blocks-few _ _ (t .before .read-store .ensures) (t .if1 .taken))
+
+element-copy-out-line-plan-2 : tie.Need-element-copy-out-line-plan-2
+element-copy-out-line-plan-2 c =
+    let l = c .before in
+    let t = l .before .before .before .before in
+    omega (arith, l .if3 .taken, blocks-few _ _ (t .before .read-store .ensures) (t .if1 .taken))
+
+returns : tie.Need-returns
+unfolding lineOf
+returns c =
+    let b = c .before .before .before in
+    let m = b .before .before in
+    let t = m .before .before in
+    indexed-line _ _ _ _ _ (t .before .read-store .ensures) (t .if1 .taken) _ (m .before .index-of .ensures) _ (m .same-index .ensures) (b .before .if2 .taken) _ (b .if3 .taken) (c .line-plan .ensures)
+
+returns-2 : tie.Need-returns-2
+returns-2 c =
+    let m = c .before .before in
+    let t = m .before .before in
+    indexed-number _ _ _ _ _ (t .before .read-store .ensures) (t .if1 .taken) _ (m .before .index-of .ensures) _ (m .same-index .ensures) (c .before .if2 .taken) (c .if3 .left)
+
+returns-3 : tie.Need-returns-3
+returns-3 c =
+    let m = c .before in
+    let t = m .before .before in
+    indexed-foreign _ _ _ _ _ (t .before .read-store .ensures) (t .if1 .taken) _ (m .before .index-of .ensures) _ (m .same-index .ensures) (c .if2 .left)
+
+returns-4 : tie.Need-returns-4
+returns-4 c = indexed-bad _ _ _ _ _ (c .before .read-store .ensures) (c .if1 .left)
+
+pub indexed-plan-spec : {M : Type 1} → statement M
+indexed-plan-spec =
+    tie.close
+    (tie.spec
+    (search needs)
+    (λ c κs. (c .before .read-store .ensures, c .if1 .taken))
+    (search needs)
+    (λ c. omega arith)
+    element-copy-out-line-plan
+    (λ c. omega arith)
+    element-copy-out-line-plan-2
+    (search needs)
+    returns
+    returns-2
+    returns-3
+    returns-4)
