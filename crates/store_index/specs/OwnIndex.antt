@@ -2,6 +2,7 @@
 --   blocks-few    a valid store has at most 32 blocks, so each has a line
 --   own-line      its lines are those of the store
 --   own-first     its kind tells where an update begins
+--   own-revision  there it has the update's revision
 use Prim.Native.Nat.{ℕ, _/_, _<_, _≤_}
 use mathlib.Core.Path.{_≡_, refl, sym, ap, _∙_}
 use mathlib.Core.Bool.{Bool, true, false, cond}
@@ -14,7 +15,8 @@ use lib.Dec.{eqb}
 use borrow.Author.Tests.{lt-ltb, eq-eqb, ne-eqb}
 use Rattle.laws.specs.Bools.{no-true}
 use Rattle.laws.specs.Unless.{unless}
-use Rattle.store_blocks.specs.Blocks.{blockCount}
+use Rattle.update_header.specs.Fields.{revision}
+use Rattle.store_blocks.specs.Blocks.{fromBlock, blockCount}
 use Rattle.store_directory.specs.Scan.{first as begins-update, storeOk, directory}
 use Rattle.store_directory.specs.StoreLaws.{directory-good}
 use Rattle.store_directory.specs.declared.Directory.{Directory}
@@ -62,3 +64,8 @@ module _ (s : List ℕ) (ok : storeOk s ≡ true) where
 
     pub own-first : eqb (lineOf x b .kind) first ≡ begins-update s b
     own-first = ap (λ (y : Line). eqb (y .kind) first) own-line ∙ first-kind b l
+
+    pub own-revision : begins-update s b ≡ true → lineOf x b .revision ≡ revision (fromBlock s b)
+    unfolding storedLine updateLine
+    own-revision f =
+        ap (λ (y : Line). y .revision) (own-line ∙ owned-line s ok b l b (record { at = f; from = omega arith; upto = omega (arith, size-some s b) }))

@@ -1,0 +1,62 @@
+-- `load_indexed::choose` meets its contract: the order of the answers.
+use borrow.Author.Needs.{needs}
+use Rattle.store_directory.specs.StoreLaws.{directory-good}
+use Rattle.load_indexed.specs.IndexedLoadLaws.{indexed-bad, indexed-foreign, indexed-same, indexed-platform, indexed-off, indexed-on}
+use Rattle.load_indexed.proofs.choose.Statement.{statement}
+use Rattle.load_indexed.proofs.choose.Tie as tie
+
+find-in-requires : tie.Need-find-in-requires
+find-in-requires c κs =
+    let b = c .before .before in
+    let m = b .before in
+    let t = m .before .before in (
+      directory-good _ _ (t .before .read-store .ensures) (t .if1 .taken),
+      indexed-same _ _ _ _ (m .before .index-of .ensures) (m .same-index .ensures) (b .if2 .taken),
+    )
+
+returns : tie.Need-returns
+returns c =
+    let b = c .before .before .before in
+    let m = b .before in
+    let t = m .before .before in
+    indexed-on _ _ _ _ _ _ (t .before .read-store .ensures) (t .if1 .taken) _ (m .before .index-of .ensures) _ (m .same-index .ensures) (b .if2 .taken) _
+    (c .before .before .if3 .taken) (c .before .if4 .taken) (c .find-in .ensures)
+
+returns-2 : tie.Need-returns-2
+returns-2 c =
+    let b = c .before .before in
+    let m = b .before in
+    let t = m .before .before in
+    indexed-off _ _ _ _ _ _ (t .before .read-store .ensures) (t .if1 .taken) _ (m .before .index-of .ensures) _ (m .same-index .ensures) (b .if2 .taken)
+    (c .before .if3 .taken) (c .if4 .left)
+
+returns-3 : tie.Need-returns-3
+returns-3 c =
+    let b = c .before in
+    let m = b .before in
+    let t = m .before .before in
+    indexed-platform _ _ _ _ _ _ (t .before .read-store .ensures) (t .if1 .taken) _ (m .before .index-of .ensures) _ (m .same-index .ensures) (b .if2 .taken)
+    (c .if3 .left)
+
+returns-4 : tie.Need-returns-4
+returns-4 c =
+    let m = c .before in
+    let t = m .before .before in
+    indexed-foreign _ _ _ _ _ _ (t .before .read-store .ensures) (t .if1 .taken) _ (m .before .index-of .ensures) _ (m .same-index .ensures) (c .if2 .left)
+
+returns-5 : tie.Need-returns-5
+returns-5 c = indexed-bad _ _ _ _ _ _ (c .before .read-store .ensures) (c .if1 .left)
+
+pub choose-spec : {M : Type 1} → statement M
+choose-spec =
+    tie.close
+    (tie.spec
+    (search needs)
+    (λ c κs. (c .before .read-store .ensures, c .if1 .taken))
+    (search needs)
+    find-in-requires
+    returns
+    returns-2
+    returns-3
+    returns-4
+    returns-5)
