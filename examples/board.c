@@ -55,6 +55,7 @@ static const char usage[] =
     "  write FILE               put the update in FILE into the store\n"
     "  read BLOCK               read an unused block, or the update that begins at BLOCK\n"
     "  load SIGNATURE PLATFORM  choose the update of a processor at start-up\n"
+    "  map                      what the store holds, a line for each block\n"
     "\n"
     "  -l                       loading is on at the start, else off. A board keeps this state\n"
     "                           in memory, this program keeps it nowhere: give -l with load\n"
@@ -188,6 +189,39 @@ static const char *reason(uint32_t al)
     }
 }
 
+static const char *kind_name(uint32_t kind)
+{
+    switch (kind) {
+    case UPDATE_STORE_KIND_UNUSED: return "unused";
+    case UPDATE_STORE_KIND_FIRST: return "first block";
+    case UPDATE_STORE_KIND_LATER: return "later block";
+    default: return "unknown kind";
+    }
+}
+
+/* Prints what the index says of a block. */
+static void print_block(const uint32_t *index, uint32_t block)
+{
+    uint32_t kind = index[UPDATE_STORE_INDEX_KINDS + block];
+    printf("block %" PRIu32 ": %s", block, kind_name(kind));
+    if (kind != UPDATE_STORE_KIND_UNUSED)
+        printf(", start block %" PRIu32 ", revision %08" PRIX32 "h, size %" PRIu32,
+               index[UPDATE_STORE_INDEX_STARTS + block],
+               index[UPDATE_STORE_INDEX_REVISIONS + block],
+               index[UPDATE_STORE_INDEX_SIZES + block]);
+    putchar('\n');
+}
+
+/* Prints the number of each block whose bit is set. */
+static void print_blocks(uint32_t bits)
+{
+    if (bits == 0)
+        printf(" none");
+    for (int block = 0; block < UPDATE_STORE_BLOCKS_MAX; block++)
+        if ((bits >> block & 1) != 0)
+            printf(" %d", block);
+}
+
 /* Ends the line of an answer, or tells a refusal, with the codes; gives the exit status. */
 static int finish(const uint32_t *answer)
 {
@@ -280,8 +314,9 @@ static int run_write(struct request *q)
     if (call(q, UPDATE_STORE_SUB_WRITE, 0, 0)) {
         if (replace_store(q->path, &q->store) != DONE)
             return complain("%s: not saved, the old store stands", q->path);
-        printf("written: start block %" PRIu32 ", updates emptied %" PRIu32,
+        printf("written: start block %" PRIu32 ", updates emptied %" PRIu32 ", blocks emptied",
                q->answer[UPDATE_STORE_WORD_START], q->answer[UPDATE_STORE_WORD_EMPTIED]);
+        print_blocks(q->answer[UPDATE_STORE_WORD_EMPTIED_BLOCKS]);
     }
     return finish(q->answer);
 }
@@ -322,6 +357,20 @@ static int run_load(struct request *q)
     return finish(q->answer);
 }
 
+/* All of the map is from the index but the number of blocks, which an index doesn't have. */
+static int run_map(struct request *q)
+{
+    uint32_t index[UPDATE_STORE_INDEX_WORDS];
+    uint32_t blocks = (uint32_t)(q->store.length / UPDATE_STORE_BLOCK_SIZE);
+    update_store_index(q->store.at, q->store.length, index, q->answer);
+    if (q->answer[UPDATE_STORE_WORD_CASE] == UPDATE_STORE_INDEX_DONE)
+        printf("map: blocks %" PRIu32, blocks);
+    int status = finish(q->answer);
+    for (uint32_t block = 0; status == DONE && block < blocks; block++)
+        print_block(index, block);
+    return status;
+}
+
 static const struct command {
     const char *name;
     const char *operands;       /* as the messages name them */
@@ -336,6 +385,7 @@ static const struct command {
     { "write", "FILE", 1, "lpr", run_write },
     { "read", "BLOCK", 1, "lo", run_read },
     { "load", "SIGNATURE PLATFORM", 2, "lo", run_load },
+    { "map", "", 0, "", run_map },
 };
 
 /* ---- The command line ---- */
