@@ -2,8 +2,8 @@
  * replay: reads the published vectors from standard input, makes their calls, and writes a line
  * for each, which has to be the published one.
  *
- * The input is steps on three buffers (0 the store, 1 the candidate, 2 the destination) and on the
- * list. Numbers have the low byte first.
+ * The input is steps on three buffers (0 the store, 1 the candidate, 2 the destination), on the
+ * list and on an index, which is all zeros at first. Numbers have the low byte first.
  */
 #define _POSIX_C_SOURCE 200809L /* read */
 
@@ -13,7 +13,10 @@
 #include "lines.h"
 #include "update_store.h"
 
-enum step { END, LENGTH, FILL, PUT, LIST, CALL, LOAD };
+enum step {
+    END, LENGTH, FILL, PUT, LIST, CALL, LOAD, INDEX, INDEX_AFTER, INDEX_PUT, READ_INDEXED,
+    LOAD_INDEXED
+};
 
 enum {
     BUFFERS = 3,
@@ -31,6 +34,8 @@ static uint32_t signatures[LIST_ROOM];
 static uint32_t signature_count;
 static uint8_t platforms[LIST_ROOM];
 static uint32_t platform_count;
+
+static uint32_t held[UPDATE_STORE_INDEX_WORDS];     /* the index */
 
 /* ---- The input ---- */
 
@@ -82,6 +87,12 @@ static struct buffer *which(void)
     return &buffers[bounded(1, BUFFERS - 1)];
 }
 
+static void length(void)
+{
+    struct buffer *buffer = which();
+    buffer->length = bounded(4, BUFFER_ROOM);
+}
+
 static void fill(void)
 {
     struct buffer *buffer = which();
@@ -130,19 +141,70 @@ static uint32_t load(uint32_t *answer)
                              answer);
 }
 
+static uint32_t index_after(uint32_t *answer)
+{
+    uint32_t words[4];
+    uint32_t carried[UPDATE_STORE_INDEX_WORDS];
+    for (int i = 0; i < 4; i++)
+        words[i] = number(4);
+    uint32_t ax = update_store_index_after(held, words[0], words[1], words[2], words[3], carried,
+                                           answer);
+    memcpy(held, carried, sizeof held);
+    return ax;
+}
+
+static void index_put(void)
+{
+    uint32_t place = bounded(1, UPDATE_STORE_INDEX_WORDS - 1);
+    held[place] = number(4);
+}
+
+static uint32_t read_indexed(uint32_t *answer)
+{
+    uint32_t block = number(4);
+    return update_store_read_indexed(held, block, buffers[0].bytes, buffers[0].length,
+                                     buffers[2].bytes, buffers[2].length, answer);
+}
+
+static uint32_t load_indexed(uint32_t *answer)
+{
+    uint32_t signature = number(4);
+    uint32_t platform = number(4);
+    bool loading = bounded(1, 1) == 1;
+    return update_store_load_indexed(loading, held, buffers[0].bytes, buffers[0].length, signature,
+                                     platform, answer);
+}
+
 /* ---- The lines ---- */
 
-/* h = 1, then h = (31 h + byte) modulo 2^32 - 5, to which 2^32 is the same as 5. */
+/* (31 h + number) modulo 2^32 - 5, to which 2^32 is the same as 5. */
+static uint32_t digest_step(uint32_t h, uint32_t number)
+{
+    uint64_t sum = 31 * (uint64_t)h + number;
+    sum = 5 * (sum >> 32) + (uint32_t)sum;
+    return (uint32_t)(sum >= 0xFFFFFFFB ? sum - 0xFFFFFFFB : sum);
+}
+
 static uint32_t digest(const struct buffer *buffer)
 {
-    uint64_t sum = 1;
-    for (uint32_t i = 0; i < buffer->length; i++) {
-        sum = 31 * sum + buffer->bytes[i];
-        sum = 5 * (sum >> 32) + (uint32_t)sum;
-        if (sum >= 0xFFFFFFFB)
-            sum -= 0xFFFFFFFB;
-    }
-    return (uint32_t)sum;
+    uint32_t h = 1;
+    for (uint32_t i = 0; i < buffer->length; i++)
+        h = digest_step(h, buffer->bytes[i]);
+    return h;
+}
+
+static uint32_t index_digest(void)
+{
+    uint32_t h = 1;
+    for (uint32_t i = 0; i < UPDATE_STORE_INDEX_WORDS; i++)
+        h = digest_step(h, held[i]);
+    return h;
+}
+
+static void say_digest(uint32_t h)
+{
+    say(" ");
+    say_hex(h, 8);
 }
 
 static void say_answer(uint32_t ax, const uint32_t *answer)
@@ -152,42 +214,46 @@ static void say_answer(uint32_t ax, const uint32_t *answer)
         say(" ");
         say_number(answer[i], 0);
     }
-    say(" ");
-    say_hex(digest(&buffers[0]), 8);
-    say(" ");
-    say_hex(digest(&buffers[2]), 8);
-    say("\n");
+    say_digest(digest(&buffers[0]));
+    say_digest(digest(&buffers[2]));
 }
 
-/* Takes one step; true if it was a call. */
+/* Takes a step that makes a call. */
+static uint32_t make_call(enum step step, uint32_t *answer)
+{
+    switch (step) {
+    case CALL: return call(answer);
+    case LOAD: return load(answer);
+    case INDEX: return update_store_index(buffers[0].bytes, buffers[0].length, held, answer);
+    case INDEX_AFTER: return index_after(answer);
+    case READ_INDEXED: return read_indexed(answer);
+    case LOAD_INDEXED: return load_indexed(answer);
+    default: broken = true; return 0;
+    }
+}
+
+/* Takes one step; true if it was a call, which has a line. */
 static bool take_step(void)
 {
     uint32_t answer[UPDATE_STORE_ANSWER_WORDS];
-    struct buffer *buffer;
-    switch (byte()) {
-    case LENGTH:
-        buffer = which();
-        buffer->length = bounded(4, BUFFER_ROOM);
-        return false;
-    case FILL:
-        fill();
-        return false;
-    case PUT:
-        put();
-        return false;
-    case LIST:
-        list();
-        return false;
-    case CALL:
-        say_answer(call(answer), answer);
-        return true;
-    case LOAD:
-        say_answer(load(answer), answer);
-        return true;
-    default:
-        broken = true;
-        return false;
+    enum step step = byte();
+    switch (step) {
+    case LENGTH: length(); return false;
+    case FILL: fill(); return false;
+    case PUT: put(); return false;
+    case LIST: list(); return false;
+    case INDEX_PUT: index_put(); return false;
+    default: break;
     }
+    memset(answer, 0xA5, sizeof answer);
+    uint32_t ax = make_call(step, answer);
+    if (broken)
+        return false;
+    say_answer(ax, answer);
+    if (step == INDEX || step == INDEX_AFTER)
+        say_digest(index_digest());
+    say("\n");
+    return true;
 }
 
 int main(void)
