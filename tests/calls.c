@@ -7,52 +7,33 @@
  */
 #include <string.h>
 
+#include "digest.h"
 #include "draw_call.h"
+#include "index_check.h"
 #include "lines.h"
 #include "random.h"
 #include "tally.h"
-#include "update_store.h"
 
-enum { LANES = 4, GUARD = 64, WORDS = UPDATE_STORE_ANSWER_WORDS };
-
-/* ---- The digest: four lanes of 32 bits ---- */
-
-static uint32_t lanes[LANES] = { 1, 2, 3, 4 };
-
-static uint32_t mixed(uint32_t lane, uint32_t word)
-{
-    lane = (lane ^ word) * 0x9E3779B1u;
-    return lane << 13 | lane >> 19;
-}
-
-static void digest(const void *from, uint32_t length)
-{
-    const uint8_t *bytes = from;
-    uint32_t a = lanes[0], b = lanes[1], c = lanes[2], d = mixed(lanes[3], length);
-    for (; length >= 16; length -= 16, bytes += 16) {
-        a = mixed(a, dword(bytes, 0));
-        b = mixed(b, dword(bytes, 4));
-        c = mixed(c, dword(bytes, 8));
-        d = mixed(d, dword(bytes, 12));
-    }
-    for (; length > 0; length--, bytes++)
-        a = mixed(a, *bytes);
-    lanes[0] = a;
-    lanes[1] = b;
-    lanes[2] = c;
-    lanes[3] = d;
-}
+enum { GUARD = 64, LENT = 5, WORDS = UPDATE_STORE_ANSWER_WORDS };
 
 /* ---- The buffers ---- */
 
 static uint8_t store_area[GUARD + STORE_ROOM + SHIFTS + GUARD];
 static uint8_t candidate_area[GUARD + CANDIDATE_ROOM + SHIFTS + GUARD];
 static uint8_t destination_area[GUARD + DESTINATION_ROOM + SHIFTS + GUARD];
+static uint32_t index_area[(GUARD + INDEX_ROOM + SHIFTS + GUARD) / 4];
+static uint32_t new_index_area[(GUARD + INDEX_ROOM + SHIFTS + GUARD) / 4];
 
 static struct scene scene = {
     .store.room = store_area + GUARD,
     .candidate.room = candidate_area + GUARD,
     .destination.room = destination_area + GUARD,
+    .index = { .room = (uint8_t *)index_area + GUARD, .length = INDEX_ROOM },
+    .new_index = { .room = (uint8_t *)new_index_area + GUARD, .length = INDEX_ROOM },
+};
+
+static const struct lent *const lent[LENT] = {
+    &scene.store, &scene.candidate, &scene.destination, &scene.index, &scene.new_index,
 };
 
 struct guard {
@@ -76,23 +57,40 @@ static bool guard_stands(const struct guard *guard, const struct lent *lent)
 
 static uint32_t make_call(const struct call *call, uint32_t *answer)
 {
-    if (call->load)
-        return update_store_load(scene.loading, scene.store.bytes, scene.store.length,
-                                 call->signature, call->platform, answer);
-    return update_store_call(
-        call->function, call->sub_function, call->task, call->block, scene.loading,
-        scene.store.bytes, scene.store.length, scene.signatures, scene.signature_count,
-        scene.platforms, scene.platform_count, scene.candidate.bytes, scene.candidate.length,
-        call->read_back, scene.destination.bytes, scene.destination.length, answer);
+    uint8_t *store = scene.store.bytes;
+    uint32_t store_length = scene.store.length;
+    const uint32_t *index = words_of(&scene.index);
+    switch (call->entry) {
+    case ENTRY_LOAD:
+        return update_store_load(scene.loading, store, store_length, call->signature,
+                                 call->platform, answer);
+    case ENTRY_INDEX:
+        return update_store_index(store, store_length, words_of(&scene.new_index), answer);
+    case ENTRY_INDEX_AFTER:
+        return update_store_index_after(index, call->emptied, call->start, call->revision,
+                                        call->size, words_of(&scene.new_index), answer);
+    case ENTRY_READ_INDEXED:
+        return update_store_read_indexed(index, call->block, store, store_length,
+                                         scene.destination.bytes, scene.destination.length,
+                                         answer);
+    case ENTRY_LOAD_INDEXED:
+        return update_store_load_indexed(scene.loading, index, store, store_length,
+                                         call->signature, call->platform, answer);
+    default:
+        return update_store_call(
+            call->function, call->sub_function, call->task, call->block, scene.loading, store,
+            store_length, scene.signatures, scene.signature_count, scene.platforms,
+            scene.platform_count, scene.candidate.bytes, scene.candidate.length, call->read_back,
+            scene.destination.bytes, scene.destination.length, answer);
+    }
 }
 
 static void digest_all(uint32_t ax, const uint32_t *answer)
 {
     digest(&ax, sizeof ax);
     digest(answer, (WORDS + 2) * sizeof answer[0]);
-    digest(scene.store.bytes, scene.store.length);
-    digest(scene.destination.bytes, scene.destination.length);
-    digest(scene.candidate.bytes, scene.candidate.length);
+    for (int i = 0; i < LENT; i++)
+        digest(lent[i]->bytes, lent[i]->length);
     digest(scene.signatures, sizeof scene.signatures);
     digest(scene.platforms, sizeof scene.platforms);
 }
@@ -101,16 +99,16 @@ static void digest_all(uint32_t ax, const uint32_t *answer)
 static const char *one_call(void)
 {
     struct call call;
-    struct guard guards[3];
-    const struct lent *lent[3] = { &scene.store, &scene.candidate, &scene.destination };
+    struct guard guards[LENT];
     uint32_t words[WORDS + 2];
     uint32_t *answer = words + 1;
     draw_call(&scene, &call);
+    index_before(&scene, &call);
     memset(words, 0xA5, sizeof words);
-    for (int i = 0; i < 3; i++)
+    for (int i = 0; i < LENT; i++)
         keep_guard(&guards[i], lent[i]);
     uint32_t ax = make_call(&call, answer);
-    for (int i = 0; i < 3; i++)
+    for (int i = 0; i < LENT; i++)
         if (!guard_stands(&guards[i], lent[i]))
             return "bytes beside a buffer were written";
     if (ax != answer[UPDATE_STORE_WORD_AH] * 256 + answer[UPDATE_STORE_WORD_AL])
@@ -118,10 +116,11 @@ static const char *one_call(void)
     if (!tally_add(&call, answer))
         return "a code that the call may not give";
     digest_all(ax, words);
-    if (!call.load)
+    const char *wrong = index_check(&scene, &call, answer);
+    if (call.entry == ENTRY_CALL)
         scene.loading = answer[UPDATE_STORE_WORD_LOADING] != 0;
-    call_answered(&scene, ax == 0 && !call.load && call.sub_function == UPDATE_STORE_SUB_WRITE);
-    return NULL;
+    call_answered(&scene, is_write(&call) && ax == 0);
+    return wrong;
 }
 
 /* Makes a call from another depth of the stack: one with each alignment that the target allows. */
@@ -154,10 +153,7 @@ int main(int count, char **words)
         wrong = one_call_from(calls % 4);
     if (!tally_say() && wrong == NULL)
         wrong = "a code that no call got";
-    say("digest ");
-    for (int i = 0; i < LANES; i++)
-        say_hex(lanes[i], 8);
-    say("\n");
+    digest_say();
     if (wrong != NULL) {
         say(wrong);
         say("\n");

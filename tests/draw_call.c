@@ -3,6 +3,7 @@
 #include <string.h>
 
 #include "draw_candidate.h"
+#include "draw_index.h"
 #include "draw_store.h"
 #include "random.h"
 #include "update_store.h"
@@ -44,7 +45,7 @@ static uint32_t draw_block(const struct scene *scene)
 /* A D042h call whose numbers that don't matter to it are drawn too. */
 static void draw_numbers(const struct scene *scene, struct call *call, uint32_t sub_function)
 {
-    call->load = false;
+    call->entry = ENTRY_CALL;
     call->function = UPDATE_STORE_FUNCTION;
     call->sub_function = sub_function;
     call->task = draw_task();
@@ -87,7 +88,7 @@ static void draw_load(struct scene *scene, struct call *call)
 {
     static const uint32_t platforms[] = { 8, 9, 255, 256, 257, 0x80000000, 0xFFFFFFFF };
     struct pair processor = some_processor();
-    call->load = true;
+    call->entry = ENTRY_LOAD;
     call->signature = processor.signature;
     call->platform = 0;
     while (processor.flags >> call->platform > 1)
@@ -98,6 +99,22 @@ static void draw_load(struct scene *scene, struct call *call)
         call->platform = PICK(platforms);
     if (chance(60))
         scene->loading = true;
+}
+
+/* A call of one of the functions that have to do with an index. */
+static void draw_indexed(struct scene *scene, struct call *call)
+{
+    static const enum entry entries[] = {
+        ENTRY_INDEX, ENTRY_INDEX_AFTER, ENTRY_READ_INDEXED, ENTRY_LOAD_INDEXED,
+    };
+    enum entry entry = PICK(entries);
+    if (entry == ENTRY_READ_INDEXED)
+        draw_read(scene, call);
+    else if (entry == ENTRY_LOAD_INDEXED)
+        draw_load(scene, call);
+    draw_carry(scene, call);
+    draw_index(scene);
+    call->entry = entry;
 }
 
 static void draw_unknown(const struct scene *scene, struct call *call)
@@ -132,7 +149,8 @@ static void draw_anything(struct scene *scene, struct call *call)
 {
     static const uint32_t lengths[] = { 0, BLOCK, 3 * BLOCK, 32 * BLOCK, STORE_ROOM };
     draw_numbers(scene, call, below(5));
-    call->load = chance(20);
+    draw_carry(scene, call);
+    call->entry = below(ENTRY_LOAD_INDEXED + 1);
     call->signature = random_word();
     call->platform = random_word() >> below(32);
     scene->store.length = PICK(lengths);
@@ -140,6 +158,7 @@ static void draw_anything(struct scene *scene, struct call *call)
     scene->destination.length = below(DESTINATION_ROOM + 1);
     fill_random(scene->store.bytes, chance(50) ? below(scene->store.length + 1) : 0);
     fill_random(scene->candidate.bytes, chance(50) ? scene->candidate.length : 0);
+    draw_index(scene);
     held.count = 0;
     left = 0;
 }
@@ -147,16 +166,18 @@ static void draw_anything(struct scene *scene, struct call *call)
 static void draw_any(struct scene *scene, struct call *call)
 {
     uint32_t kind = below(100);
-    if (kind < 55)
+    if (kind < 44)
         draw_write(scene, call);
-    else if (kind < 62)
+    else if (kind < 49)
         draw_numbers(scene, call, UPDATE_STORE_SUB_PRESENCE);
-    else if (kind < 78)
+    else if (kind < 59)
         draw_read(scene, call);
-    else if (kind < 84)
+    else if (kind < 63)
         draw_numbers(scene, call, UPDATE_STORE_SUB_CONTROL);
-    else if (kind < 96)
+    else if (kind < 71)
         draw_load(scene, call);
+    else if (kind < 96)
+        draw_indexed(scene, call);
     else
         draw_unknown(scene, call);
 }
@@ -179,6 +200,8 @@ static void new_scene(struct scene *scene)
     scene->store.bytes = scene->store.room + below(SHIFTS);
     scene->candidate.bytes = scene->candidate.room + below(SHIFTS);
     scene->destination.bytes = scene->destination.room + below(SHIFTS);
+    scene->index.bytes = scene->index.room + 4 * below(SHIFTS / 4);
+    scene->new_index.bytes = scene->new_index.room + 4 * below(SHIFTS / 4);
     draw_store(&scene->store);
     scene->destination.length = below(4) * BLOCK;
     memset(scene->destination.bytes, (int)below(256), DESTINATION_ROOM);

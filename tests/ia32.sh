@@ -13,8 +13,9 @@ VECTORS=${VECTORS:-crates/test_vectors}
 # ---- The programs ----
 
 make_archives
-drawn='tests/draw_call.c tests/draw_candidate.c tests/draw_store.c tests/draw_update.c'
-drawn="$drawn tests/update.c tests/random.c tests/tally.c tests/lines.c"
+drawn='tests/draw_call.c tests/draw_candidate.c tests/draw_index.c tests/draw_store.c'
+drawn="$drawn tests/draw_update.c tests/index_check.c tests/digest.c tests/update.c tests/random.c"
+drawn="$drawn tests/tally.c tests/lines.c"
 build_host calls "tests/calls.c $drawn"
 build_bare calls "tests/calls.c $drawn"
 build_host replay 'tests/replay.c tests/lines.c'
@@ -45,6 +46,8 @@ session() { # FOLDER
     "$1/board" -p 650:1 "$1/flash.bin" write "$1/update.bin"
     "$1/board" -p 650:1 "$1/flash.bin" write "$1/update.bin" || true
     "$1/board" -l "$1/flash.bin" load 650 1
+    "$1/board" "$1/flash.bin" map
+    "$1/board" crates/catalogue/stdin map
     cksum <"$1/flash.bin"
 }
 
