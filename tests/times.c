@@ -4,103 +4,10 @@
  * A time is the least of many rounds of many calls, with warm buffers. Where a write is accepted,
  * the store is put back by a copy before every call, and the time of that copy alone is taken off.
  */
-#define _POSIX_C_SOURCE 199309L /* clock_gettime */
-
 #include <stdio.h>
 #include <string.h>
-#include <time.h>
 
-#include "update.h"
-#include "update_store.h"
-
-enum { ROUNDS = 40, LARGEST_STORE = 32 * BLOCK, LARGEST_UPDATE = 16 * BLOCK };
-
-static const double ROUND = 200000; /* nanoseconds that a round is to take */
-
-/* ---- One kind of call, and what it is lent ---- */
-
-static uint8_t store[LARGEST_STORE], saved[LARGEST_STORE];
-static uint8_t candidate[LARGEST_UPDATE], destination[LARGEST_UPDATE];
-
-static struct work {
-    bool load;
-    uint32_t function;
-    uint32_t sub_function;
-    uint32_t task;
-    bool loading;
-    uint32_t signature;
-    uint8_t platform;
-    uint32_t blocks;
-    uint32_t candidate_length;
-    uint32_t read_back;
-    uint32_t destination_length;
-    bool stores;                /* the write is accepted */
-} work;
-
-static uint32_t run(void)
-{
-    uint32_t answer[UPDATE_STORE_ANSWER_WORDS];
-    if (work.load)
-        return update_store_load(work.loading, store, work.blocks * BLOCK, work.signature,
-                                 work.platform, answer);
-    return update_store_call(
-        work.function, work.sub_function, work.task, 0, work.loading, store, work.blocks * BLOCK,
-        &work.signature, 1, &work.platform, 1, candidate, work.candidate_length, work.read_back,
-        destination, work.destination_length, answer);
-}
-
-/* ---- The time ---- */
-
-static double now(void)
-{
-    struct timespec time;
-    clock_gettime(CLOCK_MONOTONIC, &time);
-    return 1e9 * (double)time.tv_sec + (double)time.tv_nsec;
-}
-
-static uint32_t no_call(void)
-{
-    return 0;
-}
-
-/* The time of one turn, over a round of turns. */
-static double round_of(uint32_t (*turn)(void), uint32_t turns)
-{
-    uint32_t (*volatile one)(void) = turn;
-    uint32_t length = work.blocks * BLOCK;
-    double begin = now();
-    for (uint32_t i = 0; i < turns; i++) {
-        if (work.stores)
-            memcpy(store, saved, length);
-        one();
-    }
-    return (now() - begin) / turns;
-}
-
-static double least_of(uint32_t (*turn)(void))
-{
-    double least = round_of(turn, 20);
-    uint32_t turns = 1 + (uint32_t)(ROUND / (least < 1 ? 1 : least));
-    for (int i = 0; i < ROUNDS; i++) {
-        double time = round_of(turn, turns);
-        least = time < least ? time : least;
-    }
-    return least;
-}
-
-static void tell(const char *name, uint32_t ax)
-{
-    memcpy(saved, store, sizeof saved);
-    if (run() != ax) {
-        printf("%s\tanother answer\n", name);
-        return;
-    }
-    memcpy(store, saved, sizeof store);
-    double time = least_of(run);
-    if (work.stores)
-        time -= least_of(no_call);
-    printf("%s\t%.1f\n", name, time);
-}
+#include "timed.h"
 
 /* ---- Updates and stores ---- */
 
@@ -144,6 +51,7 @@ static void one_block_updates(uint32_t blocks, uint32_t pairs)
 static void begin(uint32_t sub_function)
 {
     work = (struct work){
+        .turn = call,
         .function = UPDATE_STORE_FUNCTION,
         .sub_function = sub_function,
         .signature = 0x650,
@@ -185,22 +93,46 @@ static void presence_rows(void)
     tell("presence, two of 32 KB with 64 entries", 0);
 }
 
-static void read_and_load_rows(void)
+static void tell_how(const char *name, const char *how)
+{
+    char whole[64];
+    snprintf(whole, sizeof whole, "%s%s", name, how);
+    tell(whole, 0);
+}
+
+/* Both without the index, or both through it. */
+static void read_and_load_rows(uint32_t (*read)(void), uint32_t (*choose)(void), const char *how)
 {
     begin(UPDATE_STORE_SUB_READ);
+    work.turn = read;
     unused(1);
     put_p(store, 7);
-    tell("read of one block", 0);
+    tell_how("read of one block", how);
     unused(16);
     put_update(store, 1, 0x700, 1, 16);
     work.destination_length = 16 * BLOCK;
-    tell("read of 16 blocks", 0);
+    tell_how("read of 16 blocks", how);
     one_block_updates(32, 1);
-    work.load = true;
+    work.turn = choose;
     work.loading = true;
     work.signature = 0x20000;
     work.platform = 0;
-    tell("load choice, the last of 32 updates", 0);
+    tell_how("load choice, the last of 32 updates", how);
+}
+
+static void index_rows(void)
+{
+    begin(UPDATE_STORE_SUB_PRESENCE);
+    work.turn = build_index;
+    unused(1);
+    put_p(store, 7);
+    tell("index, one update of 2 KB", 0);
+    unused(32);
+    tell("index, 32 unused blocks", 0);
+    one_block_updates(32, 1);
+    tell("index, one-block updates, N = 32", 0);
+    work.turn = carry_index;
+    tell("index after a write of 16 blocks", 0);
 }
 
 static void write_rows(uint32_t blocks)
@@ -242,7 +174,9 @@ static void last_rows(void)
 int main(void)
 {
     presence_rows();
-    read_and_load_rows();
+    read_and_load_rows(call, load, "");
+    index_rows();
+    read_and_load_rows(read_indexed, load_indexed, ", indexed");
     write_rows(1);
     write_rows(8);
     write_rows(32);

@@ -6,8 +6,8 @@ cd "$(dirname "$0")/.."
 
 RUNS=${RUNS:-5}
 make_archives
-build_host times 'tests/times.c tests/update.c tests/random.c'
-build_board times 'tests/times.c tests/update.c tests/random.c'
+build_host times 'tests/times.c tests/timed.c tests/update.c tests/random.c'
+build_board times 'tests/times.c tests/timed.c tests/update.c tests/random.c'
 
 run=0
 while [ "$run" -lt "$RUNS" ]; do
