@@ -14,7 +14,7 @@
 #include "random.h"
 #include "tally.h"
 
-enum { GUARD = 64, LENT = 5, WORDS = UPDATE_STORE_ANSWER_WORDS };
+enum { GUARD = 64, BUFFERS = 5, WORDS = UPDATE_STORE_ANSWER_WORDS };
 
 /* ---- The buffers ---- */
 
@@ -32,7 +32,7 @@ static struct scene scene = {
     .new_index = { .room = (uint8_t *)new_index_area + GUARD, .length = INDEX_ROOM },
 };
 
-static const struct lent *const lent[LENT] = {
+static const struct lent *const buffers[BUFFERS] = {
     &scene.store, &scene.candidate, &scene.destination, &scene.index, &scene.new_index,
 };
 
@@ -89,8 +89,8 @@ static void digest_all(uint32_t ax, const uint32_t *answer)
 {
     digest(&ax, sizeof ax);
     digest(answer, (WORDS + 2) * sizeof answer[0]);
-    for (int i = 0; i < LENT; i++)
-        digest(lent[i]->bytes, lent[i]->length);
+    for (int i = 0; i < BUFFERS; i++)
+        digest(buffers[i]->bytes, buffers[i]->length);
     digest(scene.signatures, sizeof scene.signatures);
     digest(scene.platforms, sizeof scene.platforms);
 }
@@ -99,17 +99,17 @@ static void digest_all(uint32_t ax, const uint32_t *answer)
 static const char *one_call(void)
 {
     struct call call;
-    struct guard guards[LENT];
+    struct guard guards[BUFFERS];
     uint32_t words[WORDS + 2];
     uint32_t *answer = words + 1;
     draw_call(&scene, &call);
     index_before(&scene, &call);
     memset(words, 0xA5, sizeof words);
-    for (int i = 0; i < LENT; i++)
-        keep_guard(&guards[i], lent[i]);
+    for (int i = 0; i < BUFFERS; i++)
+        keep_guard(&guards[i], buffers[i]);
     uint32_t ax = make_call(&call, answer);
-    for (int i = 0; i < LENT; i++)
-        if (!guard_stands(&guards[i], lent[i]))
+    for (int i = 0; i < BUFFERS; i++)
+        if (!guard_stands(&guards[i], buffers[i]))
             return "bytes beside a buffer were written";
     if (ax != answer[UPDATE_STORE_WORD_AH] * 256 + answer[UPDATE_STORE_WORD_AL])
         return "the result is not AH * 256 + AL";

@@ -152,7 +152,8 @@ static void draw_anything(struct scene *scene, struct call *call)
     draw_carry(scene, call);
     call->entry = below(ENTRY_LOAD_INDEXED + 1);
     call->signature = random_word();
-    call->platform = random_word() >> below(32);
+    call->platform = random_word();
+    call->platform >>= below(32);
     scene->store.length = PICK(lengths);
     scene->candidate.length = below(CANDIDATE_ROOM + 1);
     scene->destination.length = below(DESTINATION_ROOM + 1);

@@ -92,6 +92,7 @@ static uint32_t draw_width(uint32_t store_blocks)
 static void damage_bytes(struct lent *candidate)
 {
     uint32_t length = candidate->length;
+    uint8_t bit = (uint8_t)(1u << below(8));
     switch (below(5)) {
     case 0:
         candidate->length = length - 1;
@@ -103,10 +104,10 @@ static void damage_bytes(struct lent *candidate)
         candidate->length = below(length);
         break;
     case 3:
-        candidate->bytes[below(HEADER)] ^= 1u << below(8);
+        candidate->bytes[below(HEADER)] ^= bit;
         break;
     default:
-        candidate->bytes[below(length)] ^= 1u << below(8);
+        candidate->bytes[below(length)] ^= bit;
         break;
     }
 }
@@ -121,6 +122,7 @@ static void lend_more(struct lent *candidate)
 static void damage_list(struct scene *scene)
 {
     static const uint8_t platforms[] = { 8, 9, 16, 128, 255 };
+    uint8_t platform = PICK(platforms);
     switch (below(5)) {
     case 0:
         scene->signature_count = scene->platform_count = 0;
@@ -135,7 +137,7 @@ static void damage_list(struct scene *scene)
         scene->platform_count = below(LIST_ROOM + 1);
         break;
     default:
-        scene->platforms[below(scene->platform_count)] = PICK(platforms);
+        scene->platforms[below(scene->platform_count)] = platform;
         break;
     }
 }

@@ -64,7 +64,7 @@ static uint32_t draw_start(void)
     }
 }
 
-/* Also one with which start and size come to 2^32 and little more. */
+/* Also one with which start + size is a small number, or 2^32 and a small number. */
 static uint32_t draw_size(uint32_t start)
 {
     static const uint32_t edges[] = { 0, 31, 32, 33, 0x80000000, 0xFFFFFFFF };
@@ -80,7 +80,7 @@ void draw_carry(struct scene *scene, struct call *call)
 {
     call->emptied = draw_emptied();
     call->start = draw_start();
-    call->revision = random_word() >> below(32);
+    call->revision = random_word();
     call->size = draw_size(call->start);
     memset(scene->new_index.bytes, (int)below(256), scene->new_index.length);
 }

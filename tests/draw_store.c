@@ -29,7 +29,8 @@ struct pair processor_of(struct pair pair)
 
 struct pair usual_processor(void)
 {
-    return (struct pair){ usual[below(usual_count)], 1u << below(8) };
+    uint32_t signature = usual[below(usual_count)];
+    return (struct pair){ signature, 1u << below(8) };
 }
 
 struct pair some_processor(void)

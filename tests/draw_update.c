@@ -17,7 +17,8 @@ void draw_update(struct update *update, uint32_t blocks)
         DATA_ZERO, DATA_ZERO, DATA_ZERO, DATA_UNUSED, DATA_RANDOM, DATA_LIKE_UPDATES,
     };
     static const uint32_t total_sizes[] = { 0, 0, BLOCK, 1, 0xFFFFFFFF };
-    update_sized(update, draw_revision(), blocks * BLOCK - (chance(30) ? 1024 : 0));
+    uint32_t length = blocks * BLOCK - (chance(30) ? 1024 : 0);
+    update_sized(update, draw_revision(), length);
     update->data = PICK(data);
     if (chance(10)) {
         update->date = random_word();

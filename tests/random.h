@@ -1,4 +1,7 @@
-/* Small repeatable random numbers, the same on every target. There is one row of them. */
+/*
+ * Small repeatable random numbers, the same on every target. There is one row of them: where an
+ * expression draws two, C has to say which comes first, or it must not matter.
+ */
 #ifndef RANDOM_H
 #define RANDOM_H
 
