@@ -105,7 +105,8 @@ static void draw_load(struct scene *scene, struct call *call)
 static void draw_indexed(struct scene *scene, struct call *call)
 {
     static const enum entry entries[] = {
-        ENTRY_INDEX, ENTRY_INDEX_AFTER, ENTRY_READ_INDEXED, ENTRY_LOAD_INDEXED,
+        ENTRY_INDEX, ENTRY_INDEX_AFTER, ENTRY_READ_INDEXED, ENTRY_READ_INDEXED,
+        ENTRY_LOAD_INDEXED, ENTRY_LOAD_INDEXED,
     };
     enum entry entry = PICK(entries);
     if (entry == ENTRY_READ_INDEXED)
@@ -167,15 +168,15 @@ static void draw_anything(struct scene *scene, struct call *call)
 static void draw_any(struct scene *scene, struct call *call)
 {
     uint32_t kind = below(100);
-    if (kind < 44)
+    if (kind < 40)
         draw_write(scene, call);
-    else if (kind < 49)
+    else if (kind < 44)
         draw_numbers(scene, call, UPDATE_STORE_SUB_PRESENCE);
-    else if (kind < 59)
+    else if (kind < 54)
         draw_read(scene, call);
-    else if (kind < 63)
+    else if (kind < 58)
         draw_numbers(scene, call, UPDATE_STORE_SUB_CONTROL);
-    else if (kind < 71)
+    else if (kind < 66)
         draw_load(scene, call);
     else if (kind < 96)
         draw_indexed(scene, call);

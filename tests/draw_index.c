@@ -34,10 +34,10 @@ void draw_index(struct scene *scene)
     uint32_t *index = words_of(&scene->index);
     uint32_t kind = below(20);
     update_store_index(scene->store.bytes, scene->store.length, own, answer);
-    memcpy(index, kind < 4 ? earlier : own, sizeof own);
-    if (kind == 4)
+    memcpy(index, kind < 2 ? earlier : own, sizeof own);
+    if (kind == 2)
         random_index(index);
-    else if (kind < 10)
+    else if (kind > 15)
         change_one(index);
     if (chance(30))
         memcpy(earlier, own, sizeof own);

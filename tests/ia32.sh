@@ -40,14 +40,16 @@ same_vectors() { # PROGRAM
 
 # What the host program writes, and the store that it leaves.
 session() { # FOLDER
-    rm -f "$1/flash.bin" "$1/update.bin"
+    rm -f "$1/flash.bin" "$1/update.bin" "$1/wide.bin"
     "$1/board" -o "$1/update.bin" crates/catalogue/stdin read 1
-    "$1/board" "$1/flash.bin" create 4
+    "$1/board" -o "$1/wide.bin" crates/catalogue/stdin read 3
+    "$1/board" "$1/flash.bin" create 2
     "$1/board" -p 650:1 "$1/flash.bin" write "$1/update.bin"
     "$1/board" -p 650:1 "$1/flash.bin" write "$1/update.bin" || true
     "$1/board" -l "$1/flash.bin" load 650 1
     "$1/board" "$1/flash.bin" map
-    "$1/board" crates/catalogue/stdin map
+    "$1/board" -p 683:0 "$1/flash.bin" write "$1/wide.bin"
+    "$1/board" "$1/flash.bin" map
     cksum <"$1/flash.bin"
 }
 
