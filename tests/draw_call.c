@@ -74,7 +74,7 @@ static void draw_read(struct scene *scene, struct call *call)
         const uint8_t *update = held.updates[below(held.count)];
         uint32_t blocks = blocks_of(update);
         call->block = (uint32_t)(update - scene->store.bytes) / BLOCK;
-        call->block += chance(20) ? below(blocks) : 0;
+        call->block += chance(35) ? below(blocks) : 0;
         length = blocks * BLOCK - (chance(15) ? between(1, BLOCK) : 0);
         length += chance(15) ? below(BLOCK) : 0;
     }
@@ -95,7 +95,7 @@ static void draw_load(struct scene *scene, struct call *call)
         call->platform++;
     if (chance(10))
         call->signature ^= 1u << below(32);
-    if (chance(10))
+    if (chance(15))
         call->platform = PICK(platforms);
     if (chance(60))
         scene->loading = true;
