@@ -1,9 +1,10 @@
 -- The read through an index against the plain one.
---   own-line           an index that is the same as the store's own has its lines
---   own-plan           it gives the plan of a read without it
+--   own-plan, plan-own     an index that is the same as the store's own gives the plan of a read without it
 --   read-own           with the store's own index the answer is that of the plain read
 --   read-own-bytes     and so are the copied bytes
+--   foreign-plan       another index is refused
 --   indexed-bad .. indexed-line    the order of the codes
+--   indexed-copyable   what the plan may rely on
 use Prim.Native.Nat.{ℕ, _/_, _<_, _≤_}
 use mathlib.Core.Path.{_≡_, refl, sym, ap, _∙_}
 use mathlib.Core.Bool.{Bool, true, false, cond}
@@ -112,19 +113,20 @@ module _ (s : List ℕ) (x : Index) (b m : ℕ) (d : Directory) (e : d ≡ direc
       unfolding indexedPlan unless blockCount
       indexed-line z l q = q ∙ rw (← directory-ok s d e, ok, ← f, ← g, h, lt-ltb b (length s / 2048) l)
 
--- what the plan may rely on
-foreign-plan : (s : List ℕ) (x : Index) (b m k : ℕ) → sameIndex x (indexOf s) ≡ false → indexedPlan s x b m ≡ Copy k → ⊥
+-- another index is refused
+pub foreign-plan : (s : List ℕ) (x : Index) (b m : ℕ) → sameIndex x (indexOf s) ≡ false → indexedPlan s x b m ≡ Refuse READ-FAILURE bad-store
 unfolding indexedPlan unless
-foreign-plan s x b m k h q = go (storeOk s) (rw h at q)
+foreign-plan s x b m h = rw h (go (storeOk s))
   where
-    go : (t : Bool) → unless t (Refuse READ-FAILURE bad-store) (Refuse READ-FAILURE bad-store) ≡ Copy k → ⊥
-    go true e = impossible (cc)
-    go false e = impossible (cc)
+    go : (t : Bool) → unless t (Refuse READ-FAILURE bad-store) (Refuse READ-FAILURE bad-store) ≡ Refuse READ-FAILURE bad-store
+    go true = refl
+    go false = refl
 
+-- what the plan may rely on
 pub indexed-copyable : (s : List ℕ) (x : Index) (b m : ℕ) (p : ReadPlan) → p ≡ indexedPlan s x b m → Copyable s b m p
 unfolding Copyable
 indexed-copyable s x b m p e = go (sameIndex x (indexOf s)) refl
   where
     go : (t : Bool) → sameIndex x (indexOf s) ≡ t → Copyable s b m p
     go true h = copyable s b m p (e ∙ plan-own s x h b m)
-    go false h = λ k q. absurd (foreign-plan s x b m k h (sym e ∙ q))
+    go false h = λ k q. absurd (impossible (cc (sym q ∙ e ∙ foreign-plan s x b m h)))

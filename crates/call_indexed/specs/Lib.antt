@@ -3,3 +3,4 @@ pub mod IndexCall
 pub mod IndexedRead
 pub mod IndexCallLaws
 pub mod IndexedReadLaws
+pub mod IndexedRefusals

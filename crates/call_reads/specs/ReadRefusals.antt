@@ -1,5 +1,7 @@
 -- What presence and a read leave alone.
 --   presence-coded, read-coded    the answers' codes are right
+--   coded, plan-coded, answered-coded    so are those of a plan
+--   answered-refused              a plan that refuses changes no byte of the destination
 --   read-refused     a refused read changes no byte of the destination
 --   read-kept        the destination is as it was, or the read was done
 use Prim.Native.Nat.{ℕ, _*_}
@@ -36,7 +38,7 @@ presence-coded s = go (storeOk s)
     go false = (refl, refl)
 
 -- a plan refuses with a code that is not SUCCESS
-unfoldable coded : ReadPlan → Bool
+unfoldable pub coded : ReadPlan → Bool
 coded (Copy k) = true
 coded (Refuse ah al) = not (eqb ah SUCCESS)
 
@@ -50,20 +52,20 @@ kind-coded Unused m = blocks-coded 1 m
 kind-coded (First k) m = blocks-coded k m
 kind-coded Later m = refl
 
-plan-coded : (s : List ℕ) (b m : ℕ) → coded (readPlan s b m) ≡ true
+pub plan-coded : (s : List ℕ) (b m : ℕ) → coded (readPlan s b m) ≡ true
 unfolding readPlan coded
 plan-coded s b m =
     let kind = readKind (kindAt s b) m in
     unless-all coded (storeOk s) (Refuse READ-FAILURE bad-store) (unless (ltb b (blockCount s)) (Refuse UPDATE-NUM-INVALID none) kind) refl
     (unless-all coded (ltb b (blockCount s)) (Refuse UPDATE-NUM-INVALID none) kind refl (kind-coded (kindAt s b) m))
 
-answered-coded : (p : ReadPlan) → coded p ≡ true → Coded (answered p)
+pub answered-coded : (p : ReadPlan) → coded p ≡ true → Coded (answered p)
 unfolding answered Coded coded
 answered-coded (Copy k) c = (refl, refl, refl)
 answered-coded (Refuse ah al) c = (not-true _ c, refl)
 
 module _ (s : List ℕ) (b : ℕ) (d : List ℕ) where
-  answered-refused : (p : ReadPlan) (a : RefusedNumbers) → answered p ≡ Refused a → copied s b d p ≡ d
+  pub answered-refused : (p : ReadPlan) (a : RefusedNumbers) → answered p ≡ Refused a → copied s b d p ≡ d
   unfolding answered copied
   answered-refused (Copy k) a e = absurd (impossible (cc))
   answered-refused (Refuse ah al) a e = refl
