@@ -243,10 +243,20 @@ impl<'a> Directory<'a> {
 
 /// What a successful call answers.
 enum Done {
-    Presence { blocks: usize },
-    Written { start: usize, emptied: u32 },
-    Control { loading: bool },
-    Read { blocks: usize },
+    Presence {
+        blocks: usize,
+    },
+    Written {
+        start: usize,
+        emptied: u32,
+        emptied_blocks: u32,
+    },
+    Control {
+        loading: bool,
+    },
+    Read {
+        blocks: usize,
+    },
 }
 
 /// The four update calls, as in the C interface.
@@ -293,10 +303,15 @@ pub fn call(
             answer[13] = 1;
             answer[14] = blocks as u32;
         }
-        Ok(Done::Written { start, emptied }) => {
+        Ok(Done::Written {
+            start,
+            emptied,
+            emptied_blocks,
+        }) => {
             answer[4] = 1;
             answer[5] = start as u32;
             answer[6] = emptied;
+            answer[7] = emptied_blocks;
         }
         Ok(Done::Control { loading }) => {
             answer[3] = u32::from(loading);
@@ -403,9 +418,11 @@ fn write(
     }
 
     let owners = directory.owners;
-    for (block, owner) in store.chunks_exact_mut(BLOCK).zip(owners) {
+    let mut emptied_blocks = 0;
+    for (number, (block, owner)) in store.chunks_exact_mut(BLOCK).zip(owners).enumerate() {
         if owner != NOBODY && emptied >> owner & 1 == 1 {
             block.fill(0xFF);
+            emptied_blocks |= 1 << number;
         }
     }
     let (update, rest) =
@@ -415,6 +432,7 @@ fn write(
     Ok(Done::Written {
         start,
         emptied: emptied.count_ones(),
+        emptied_blocks,
     })
 }
 

@@ -81,10 +81,14 @@ fn presence(call: &Call) -> Answer {
 fn written(call: &Call, read_back: u32) -> Answer {
     match write(call, read_back) {
         Err((ah, al)) => refused(call, ah, al),
-        Ok((outcome, bytes)) => {
-            let numbers = [outcome.start as u32, outcome.emptied_count()];
+        Ok(written) => {
+            let numbers = [
+                written.start as u32,
+                written.emptied_count,
+                written.emptied_blocks,
+            ];
             let mut answer = plain(call, SUCCESS, 0, WRITTEN_CASE, &numbers);
-            answer.store = bytes;
+            answer.store = written.bytes;
             answer
         }
     }

@@ -26,6 +26,26 @@ impl Outcome {
     pub fn emptied_count(&self) -> u32 {
         self.emptied.count_ones()
     }
+
+    /// Bit b for each block b of an emptied update, in the run or not.
+    pub fn emptied_blocks(&self, store: &Store) -> u32 {
+        let mut blocks = 0;
+        for block in 0..store.blocks {
+            if store.owner(block).is_some_and(|index| self.empties(index)) {
+                blocks |= 1 << block;
+            }
+        }
+        blocks
+    }
+}
+
+/// An accepted write.
+pub struct Written {
+    pub start: usize,
+    pub emptied_count: u32,
+    pub emptied_blocks: u32,
+    /// The store's bytes after it.
+    pub bytes: Vec<u8>,
 }
 
 /// All that decides which outcomes are legal.
@@ -133,8 +153,8 @@ pub fn listed(signatures: &[u32], platforms: &[u8]) -> Option<Vec<Processor>> {
     Some(signatures.iter().copied().zip(platforms).collect())
 }
 
-/// The accepted write's outcome and the store's bytes after it, or AH and AL.
-pub fn write(call: &Call, read_back: u32) -> Result<(Outcome, Vec<u8>), (u32, u32)> {
+/// The accepted write, or AH and AL.
+pub fn write(call: &Call, read_back: u32) -> Result<Written, (u32, u32)> {
     // 1
     let store = Store::parse(&call.store).ok_or((READ_FAILURE, 1))?;
     let listed = listed(&call.signatures, &call.platforms).ok_or((READ_FAILURE, 2))?;
@@ -164,8 +184,12 @@ pub fn write(call: &Call, read_back: u32) -> Result<(Outcome, Vec<u8>), (u32, u3
     if read_back != candidate.revision {
         return Err((SECURITY_FAILURE, 0));
     }
-    let bytes = stored(&call.store, &store, outcome, &candidate, &call.candidate);
-    Ok((outcome, bytes))
+    Ok(Written {
+        start: outcome.start,
+        emptied_count: outcome.emptied_count(),
+        emptied_blocks: outcome.emptied_blocks(&store),
+        bytes: stored(&call.store, &store, outcome, &candidate, &call.candidate),
+    })
 }
 
 /// The bytes of an outcome.

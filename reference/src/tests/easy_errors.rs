@@ -46,7 +46,7 @@ fn sharing_updates_are_emptied_wherever_they_lie() {
     let pairs = [(0x650, 1), (0x701, 1), (0x703, 1)];
     let candidate = Recipe::new(8, &pairs, 1024).build();
     let answer = write(&store, &[(0x650, 0)], &candidate);
-    assert_eq!(answer.words[5..7], [0, 2]);
+    assert_eq!(answer.words[5..8], [0, 2, 0b10_0110]);
     assert!(answer.store == make::store(6, &[(0, &candidate), (4, &stale)]));
 }
 

@@ -40,7 +40,7 @@ fn written(store: &[u8], listed: &[(u32, u8)], candidate: &[u8]) -> (u32, u32) {
     let answer = write(store, listed, candidate);
     assert_eq!(answer.ax, 0);
     assert_eq!(answer.words[..5], [0, 0, 0, 0, 1]);
-    assert_eq!(answer.words[7..], [0; 9]);
+    assert_eq!(answer.words[8..], [0; 8]);
     let after = Store::parse(&answer.store).expect("an accepted write leaves a valid store");
     let start = answer.words[5] as usize;
     let held = after.held.iter().find(|held| held.first == start);

@@ -130,6 +130,10 @@ fn judge(call: &Call, answer: &Answer) {
         .iter()
         .all(|(first, bytes)| old.get(first) == Some(bytes)));
     assert_eq!(old.len() - new.len(), answer.words[6] as usize);
+    let gone = before.held.iter();
+    let gone = gone.filter(|held| !new.contains_key(&held.first));
+    let blocks = gone.flat_map(|held| held.first..held.first + held.blocks);
+    assert_eq!(blocks.map(|block| 1 << block).sum::<u32>(), answer.words[7]);
 
     // Each listed processor that was covered still is.
     let covers = |store: &Store, processor| {

@@ -73,7 +73,7 @@ fn the_checks_come_in_document_01s_order() {
     refuses(&call, 0x9700);
     call.request = Request::write(9);
     let answer = model::answer(&call);
-    assert_eq!((answer.ax, answer.words[5], answer.words[6]), (0, 0, 2));
+    assert_eq!((answer.ax, &answer.words[5..8]), (0, &[0, 2, 0b11][..]));
     assert!(answer.store == call.candidate);
 }
 
