@@ -1,11 +1,14 @@
 //! The vectors: calls written as small steps for another program's standard input,
 //! and the lines that it has to write.
 
+mod buffer;
+
 use crate::calls::{Answer, Call, Request, CANDIDATE_ROOM, DESTINATION_ROOM, STORE_ROOM};
 use crate::edges::edges;
 use crate::generate::{Generator, Style};
 use crate::model;
 use crate::tally::Tally;
+use buffer::Buffer;
 use std::fmt::Write;
 use std::fs;
 use std::path::Path;
@@ -21,94 +24,6 @@ pub const PUT: u8 = 3;
 pub const LIST: u8 = 4;
 pub const CALL: u8 = 5;
 pub const LOAD: u8 = 6;
-
-/// A PUT carries at most so many bytes.
-const MOST_PUT: usize = 1024;
-
-/// A FILL pays from so many equal bytes on, and a new step behind so many bytes that
-/// stand already.
-const EQUAL: usize = 16;
-const STANDING: usize = 9;
-
-/// A buffer as the reading program holds it.
-struct Buffer {
-    number: u8,
-    bytes: Vec<u8>,
-    len: usize,
-}
-
-impl Buffer {
-    fn new(number: u8, room: usize) -> Buffer {
-        Buffer {
-            number,
-            bytes: vec![0; room],
-            len: 0,
-        }
-    }
-
-    /// Writes the steps that make the buffer hold these bytes.
-    fn become_bytes(&mut self, wanted: &[u8], out: &mut Vec<u8>) {
-        if wanted.len() != self.len {
-            out.extend([LEN, self.number]);
-            out.extend((wanted.len() as u32).to_le_bytes());
-            self.len = wanted.len();
-        }
-        let mut at = 0;
-        while at < wanted.len() {
-            if self.bytes[at] == wanted[at] {
-                at += 1;
-                continue;
-            }
-            let equal = equal_bytes(&wanted[at..]);
-            if equal >= EQUAL {
-                out.extend([FILL, self.number]);
-                out.extend((at as u32).to_le_bytes());
-                out.extend((equal as u32).to_le_bytes());
-                out.push(wanted[at]);
-                at += equal;
-            } else {
-                let count = self.differing_bytes(wanted, at);
-                out.extend([PUT, self.number]);
-                out.extend((at as u32).to_le_bytes());
-                out.extend((count as u16).to_le_bytes());
-                out.extend(&wanted[at..at + count]);
-                at += count;
-            }
-        }
-        self.bytes[..wanted.len()].copy_from_slice(wanted);
-    }
-
-    /// How many bytes from here go into one PUT: up to a long part that stands already
-    /// or that is better filled.
-    fn differing_bytes(&self, wanted: &[u8], from: usize) -> usize {
-        let mut last = from;
-        let mut at = from;
-        while at < wanted.len() && at < from + MOST_PUT && at - last < STANDING {
-            if self.bytes[at] != wanted[at] {
-                if equal_bytes(&wanted[at..]) >= EQUAL {
-                    break;
-                }
-                last = at;
-            }
-            at += 1;
-        }
-        last - from + 1
-    }
-
-    /// What the call itself left in the buffer.
-    fn took(&mut self, bytes: &[u8]) {
-        self.bytes[..bytes.len()].copy_from_slice(bytes);
-    }
-
-    fn digest(&self) -> u64 {
-        digest(&self.bytes[..self.len])
-    }
-}
-
-/// How many bytes at the beginning are equal.
-fn equal_bytes(bytes: &[u8]) -> usize {
-    bytes.iter().take_while(|&&byte| byte == bytes[0]).count()
-}
 
 /// A short number for many bytes.
 pub fn digest(bytes: &[u8]) -> u64 {
