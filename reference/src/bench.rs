@@ -11,6 +11,7 @@ mod works;
 use crate::board;
 use crate::calls::{Call, Request};
 use crate::fast;
+use crate::index::{Index, ALL_UNUSED};
 use std::env;
 use std::hint::black_box;
 use std::process::Command;
@@ -38,10 +39,27 @@ impl Times {
     }
 }
 
+/// What a call writes beside the store and the destination.
+#[derive(PartialEq)]
+struct Output {
+    words: [u32; 16],
+    index: Index,
+}
+
+impl Output {
+    fn new() -> Output {
+        Output {
+            words: [0; 16],
+            index: ALL_UNUSED,
+        }
+    }
+}
+
 /// Runs a call on one of the two sides.
 macro_rules! side {
     ($name:ident, $form:ident) => {
-        fn $name(call: &mut Call, words: &mut [u32; 16]) -> u32 {
+        fn $name(call: &mut Call, output: &mut Output) -> u32 {
+            let words = &mut output.words;
             match call.request {
                 Request::Update {
                     function,
@@ -67,6 +85,28 @@ macro_rules! side {
                     signature,
                     platform,
                 } => $form::load(call.loading, &call.store, signature, platform, words),
+                Request::Index => $form::index(&call.store, &mut output.index, words),
+                Request::IndexAfter {
+                    ref old,
+                    emptied,
+                    start,
+                    revision,
+                    size,
+                } => {
+                    let index = &mut output.index;
+                    $form::index_after(old, emptied, start, revision, size, index, words)
+                }
+                Request::ReadIndexed { ref index, block } => {
+                    $form::read_indexed(index, block, &call.store, &mut call.destination, words)
+                }
+                Request::LoadIndexed {
+                    ref index,
+                    signature,
+                    platform,
+                } => {
+                    let store = &call.store;
+                    $form::load_indexed(call.loading, index, store, signature, platform, words)
+                }
             }
         }
     };
@@ -76,25 +116,25 @@ side!(library, board);
 side!(rust, fast);
 
 /// No call at all: what is left is the copy that puts the store back.
-fn nothing(_: &mut Call, _: &mut [u32; 16]) -> u32 {
+fn nothing(_: &mut Call, _: &mut Output) -> u32 {
     0
 }
 
 /// The time of one turn, over a round of turns.
 fn round(
-    run: impl Fn(&mut Call, &mut [u32; 16]) -> u32,
+    run: impl Fn(&mut Call, &mut Output) -> u32,
     call: &mut Call,
     saved: Option<&[u8]>,
     turns: usize,
 ) -> f64 {
-    let mut words = [0; 16];
+    let mut output = Output::new();
     let begin = Instant::now();
     for _ in 0..turns {
         if let Some(saved) = saved {
             black_box(&mut call.store).copy_from_slice(black_box(saved));
         }
-        black_box(run(black_box(call), &mut words));
-        black_box(&words);
+        black_box(run(black_box(call), &mut output));
+        black_box(&output);
     }
     begin.elapsed().as_nanos() as f64 / turns as f64
 }
@@ -104,11 +144,11 @@ impl Work {
     fn check(&self) {
         let mut one = self.call.clone();
         let mut two = self.call.clone();
-        let mut words = [[0; 16]; 2];
-        let library = library(&mut one, &mut words[0]);
-        let rust = rust(&mut two, &mut words[1]);
+        let mut outputs = [Output::new(), Output::new()];
+        let library = library(&mut one, &mut outputs[0]);
+        let rust = rust(&mut two, &mut outputs[1]);
         assert!(
-            library == self.ax && rust == self.ax && words[0] == words[1] && one == two,
+            library == self.ax && rust == self.ax && outputs[0] == outputs[1] && one == two,
             "{}: the two sides do not agree",
             self.name
         );
@@ -116,8 +156,7 @@ impl Work {
 
     fn time(&self) -> Times {
         let mut call = self.call.clone();
-        let mut words = [0; 16];
-        rust(&mut call, &mut words);
+        rust(&mut call, &mut Output::new());
         let saved = (call.store != self.call.store).then_some(&self.call.store[..]);
         call.store.copy_from_slice(&self.call.store);
 

@@ -1,5 +1,7 @@
 //! One call of the C interface: all its inputs, and all that it leaves behind.
 
+use crate::index::Index;
+
 /// Bytes in a block.
 pub const BLOCK: usize = 2048;
 
@@ -44,9 +46,26 @@ pub enum Request {
         signature: u32,
         platform: u32,
     },
+    Index,
+    IndexAfter {
+        old: Index,
+        emptied: u32,
+        start: u32,
+        revision: u32,
+        size: u32,
+    },
+    ReadIndexed {
+        index: Index,
+        block: u32,
+    },
+    LoadIndexed {
+        index: Index,
+        signature: u32,
+        platform: u32,
+    },
 }
 
-/// All inputs of one call. The load choice takes the loading state and the store only.
+/// All inputs of one call. The update calls take them all, the other functions a few.
 #[derive(Clone, Debug, PartialEq, Eq)]
 pub struct Call {
     pub request: Request,
@@ -58,14 +77,15 @@ pub struct Call {
     pub destination: Vec<u8>,
 }
 
-/// All that a call leaves behind: the image of AX, the answer words, and the
-/// bytes of the store and the destination after it.
+/// All that a call leaves behind: the image of AX, the answer words, the bytes of the
+/// store and the destination after it, and the index if the call makes one.
 #[derive(Clone, Debug, PartialEq, Eq)]
 pub struct Answer {
     pub ax: u32,
     pub words: [u32; 16],
     pub store: Vec<u8>,
     pub destination: Vec<u8>,
+    pub index: Option<Index>,
 }
 
 impl Request {
@@ -110,10 +130,31 @@ impl Request {
         }
     }
 
+    /// The index that is lent to the function, if it takes one.
+    pub fn index(&self) -> Option<&Index> {
+        match self {
+            Request::IndexAfter { old, .. } => Some(old),
+            Request::ReadIndexed { index, .. } | Request::LoadIndexed { index, .. } => Some(index),
+            Request::Update { .. } | Request::Load { .. } | Request::Index => None,
+        }
+    }
+
+    /// Whether the function takes the loading state.
+    pub fn takes_loading(&self) -> bool {
+        match self {
+            Request::Update { .. } | Request::Load { .. } | Request::LoadIndexed { .. } => true,
+            Request::Index | Request::IndexAfter { .. } | Request::ReadIndexed { .. } => false,
+        }
+    }
+
     /// The call's name in counts and reports.
     pub fn name(&self) -> &'static str {
         match *self {
             Request::Load { .. } => "load",
+            Request::Index => "index",
+            Request::IndexAfter { .. } => "index after",
+            Request::ReadIndexed { .. } => "read indexed",
+            Request::LoadIndexed { .. } => "load indexed",
             Request::Update { function, .. } if function != FUNCTION => "unknown function",
             Request::Update { sub_function, .. } => match sub_function {
                 PRESENCE => "presence",

@@ -1,6 +1,7 @@
 //! Compares the library with the model on random calls: the result, every answer
 //! word, every byte lent, and guards around all that is lent.
 
+mod lent;
 mod loan;
 
 use crate::calls::Call;

@@ -1,6 +1,10 @@
 //! The two calls once more, plain and fast: the store is read once into a directory
 //! of fixed size, and nothing is allocated.
 
+mod index;
+
+pub use index::{index, index_after, load_indexed, read_indexed};
+
 const BLOCK: usize = 2048;
 const MOST_BLOCKS: usize = 32;
 const HEADER: usize = 48;
@@ -287,14 +291,10 @@ pub fn call(
     answer[3] = u32::from(loading);
     match done {
         Err(refusal) => {
-            answer[0] = refusal >> 8;
-            answer[1] = refusal & 0xFF;
-            answer[2] = 1;
-            answer[4] = 4;
             if function == 0xD042 && sub_function == 2 {
                 answer[5] = 0xFF;
             }
-            return refusal;
+            return lay_refusal(refusal, 4, answer);
         }
         Ok(Done::Presence { blocks }) => {
             for (word, &letter) in answer[5..13].iter_mut().zip(b"INTELPEP") {
@@ -324,6 +324,15 @@ pub fn call(
         }
     }
     0
+}
+
+/// Lays a refusal and its case out in words of zeros.
+fn lay_refusal(refusal: Refusal, case: u32, answer: &mut [u32; 16]) -> u32 {
+    answer[0] = refusal >> 8;
+    answer[1] = refusal & 0xFF;
+    answer[2] = 1;
+    answer[4] = case;
+    refusal
 }
 
 fn presence(store: &[u8]) -> Result<Done, Refusal> {
@@ -357,12 +366,22 @@ fn read(store: &[u8], block: u32, destination: &mut [u8]) -> Result<Done, Refusa
             directory.update(place).blocks()
         }
     };
+    copy_blocks(store, block, blocks, destination)?;
+    Ok(Done::Read { blocks })
+}
+
+fn copy_blocks(
+    store: &[u8],
+    block: usize,
+    blocks: usize,
+    destination: &mut [u8],
+) -> Result<(), Refusal> {
     let length = blocks * BLOCK;
     if destination.len() < length {
         return Err(SHORT_DESTINATION);
     }
     destination[..length].copy_from_slice(&store[block * BLOCK..][..length]);
-    Ok(Done::Read { blocks })
+    Ok(())
 }
 
 fn write(
@@ -446,35 +465,44 @@ pub fn load(
     answer: &mut [u32; 16],
 ) -> u32 {
     let chosen = choose(loading, store, signature, platform);
+    lay_choice(loading, chosen, answer)
+}
+
+/// The chosen update's start block, revision and number of data bytes.
+struct Choice {
+    start: usize,
+    revision: u32,
+    data: usize,
+}
+
+/// Lays what was chosen out in the answer words.
+fn lay_choice(
+    loading: bool,
+    chosen: Result<Option<Choice>, Refusal>,
+    answer: &mut [u32; 16],
+) -> u32 {
     *answer = [0; 16];
     answer[3] = u32::from(loading);
     match chosen {
-        Err(refusal) => {
-            answer[0] = refusal >> 8;
-            answer[1] = refusal & 0xFF;
-            answer[2] = 1;
-            answer[4] = 2;
-            refusal
-        }
+        Err(refusal) => lay_refusal(refusal, 2, answer),
         Ok(None) => 0,
-        Ok(Some((start, revision, data))) => {
+        Ok(Some(choice)) => {
             answer[4] = 1;
-            answer[5] = start as u32;
-            answer[6] = revision;
-            answer[7] = (start * BLOCK + HEADER) as u32;
-            answer[8] = data as u32;
+            answer[5] = choice.start as u32;
+            answer[6] = choice.revision;
+            answer[7] = (choice.start * BLOCK + HEADER) as u32;
+            answer[8] = choice.data as u32;
             0
         }
     }
 }
 
-/// The chosen update's start block, revision and data bytes.
 fn choose(
     loading: bool,
     store: &[u8],
     signature: u32,
     platform: u32,
-) -> Result<Option<(usize, u32, usize)>, Refusal> {
+) -> Result<Option<Choice>, Refusal> {
     let directory = Directory::scan(store).ok_or(BAD_STORE)?;
     if platform > 7 {
         return Err(BAD_LIST);
@@ -486,5 +514,9 @@ fn choose(
         .held()
         .zip(directory.places)
         .find(|(update, _)| update.covers(signature, 1 << platform));
-    Ok(found.map(|(update, place)| (usize::from(place.start), update.revision(), update.data)))
+    Ok(found.map(|(update, place)| Choice {
+        start: usize::from(place.start),
+        revision: update.revision(),
+        data: update.data,
+    }))
 }

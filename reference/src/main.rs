@@ -13,6 +13,7 @@ mod edges;
 #[cfg(any(test, feature = "board"))]
 mod fast;
 mod generate;
+mod index;
 mod make;
 mod model;
 mod random;

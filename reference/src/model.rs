@@ -1,9 +1,11 @@
-//! The calls and the load choice, answered in the words of the C interface.
+//! The calls, the load choice and the functions of the index, answered in the words of the
+//! C interface.
 
 use crate::calls::{
     Answer, Call, Request, BLOCK, CONTROL, FUNCTION, NOT_EMPTY, NOT_IMPLEMENTED, PRESENCE, READ,
     READ_FAILURE, SUCCESS, UPDATE_NUM_INVALID, WRITE,
 };
+use crate::index::{built, carried, Index, ALL_UNUSED};
 use crate::store::Store;
 use crate::write::write;
 
@@ -19,31 +21,50 @@ const NOTHING_CASE: u32 = 0;
 const CHOSEN_CASE: u32 = 1;
 const LOAD_REFUSED_CASE: u32 = 2;
 
+/// The cases in word 4 of the answer of the functions that make an index.
+const MADE_CASE: u32 = 0;
+const NOT_MADE_CASE: u32 = 1;
+
 /// What a call answers and leaves behind.
 pub fn answer(call: &Call) -> Answer {
     match call.request {
-        Request::Load {
-            signature,
-            platform,
-        } => load(call, signature, platform),
         Request::Update {
             function,
             sub_function,
             task,
             block,
             read_back,
-        } => {
-            if function != FUNCTION {
-                return refused(call, NOT_IMPLEMENTED, 0);
-            }
-            match sub_function {
-                PRESENCE => presence(call),
-                WRITE => written(call, read_back),
-                CONTROL => control(call, task),
-                READ => read(call, block),
-                _ => refused(call, NOT_IMPLEMENTED, 0),
-            }
+        } => match (function, sub_function) {
+            (FUNCTION, PRESENCE) => presence(call),
+            (FUNCTION, WRITE) => written(call, read_back),
+            (FUNCTION, CONTROL) => control(call, task),
+            (FUNCTION, READ) => read(call, block),
+            _ => refused(call, NOT_IMPLEMENTED, 0),
+        },
+        Request::Load {
+            signature,
+            platform,
+        } => load(call, signature, platform),
+        Request::Index => index(call),
+        Request::IndexAfter {
+            ref old,
+            emptied,
+            start,
+            revision,
+            size,
+        } => made(call, carried(old, emptied, start, revision, size)),
+        Request::ReadIndexed { ref index, .. } if !own(call, index) => {
+            refused(call, READ_FAILURE, 1)
         }
+        Request::ReadIndexed { block, .. } => read(call, block),
+        Request::LoadIndexed { ref index, .. } if !own(call, index) => {
+            plain(call, READ_FAILURE, 1, LOAD_REFUSED_CASE, &[])
+        }
+        Request::LoadIndexed {
+            signature,
+            platform,
+            ..
+        } => load(call, signature, platform),
     }
 }
 
@@ -53,7 +74,7 @@ fn plain(call: &Call, ah: u32, al: u32, case: u32, numbers: &[u32]) -> Answer {
     words[0] = ah;
     words[1] = al;
     words[2] = u32::from(ah != 0);
-    words[3] = u32::from(call.loading);
+    words[3] = u32::from(call.loading && call.request.takes_loading());
     words[4] = case;
     words[5..5 + numbers.len()].copy_from_slice(numbers);
     Answer {
@@ -61,6 +82,7 @@ fn plain(call: &Call, ah: u32, al: u32, case: u32, numbers: &[u32]) -> Answer {
         words,
         store: call.store.clone(),
         destination: call.destination.clone(),
+        index: None,
     }
 }
 
@@ -147,5 +169,27 @@ fn load(call: &Call, signature: u32, platform: u32) -> Answer {
             plain(call, SUCCESS, 0, CHOSEN_CASE, &numbers)
         }
         _ => plain(call, SUCCESS, 0, NOTHING_CASE, &[]),
+    }
+}
+
+/// Whether the store is valid and the index is its own.
+fn own(call: &Call, index: &Index) -> bool {
+    Store::parse(&call.store).is_some_and(|store| built(&store) == *index)
+}
+
+fn made(call: &Call, index: Index) -> Answer {
+    let mut answer = plain(call, SUCCESS, 0, MADE_CASE, &[]);
+    answer.index = Some(index);
+    answer
+}
+
+fn index(call: &Call) -> Answer {
+    match Store::parse(&call.store) {
+        Some(store) => made(call, built(&store)),
+        None => {
+            let mut answer = plain(call, READ_FAILURE, 1, NOT_MADE_CASE, &[]);
+            answer.index = Some(ALL_UNUSED);
+            answer
+        }
     }
 }

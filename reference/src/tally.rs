@@ -12,7 +12,7 @@ use std::fmt;
 type Line = (&'static str, u32, u32);
 
 /// Every code that each call can give.
-const CODES: [Line; 25] = [
+const CODES: [Line; 37] = [
     ("unknown function", NOT_IMPLEMENTED, 0),
     ("unknown sub-function", NOT_IMPLEMENTED, 0),
     ("presence", SUCCESS, 0),
@@ -38,6 +38,18 @@ const CODES: [Line; 25] = [
     ("load, chosen", SUCCESS, 0),
     ("load", READ_FAILURE, 1),
     ("load", READ_FAILURE, 2),
+    ("index", SUCCESS, 0),
+    ("index", READ_FAILURE, 1),
+    ("index after", SUCCESS, 0),
+    ("read indexed", SUCCESS, 0),
+    ("read indexed", READ_FAILURE, 1),
+    ("read indexed", READ_FAILURE, 3),
+    ("read indexed", UPDATE_NUM_INVALID, 0),
+    ("read indexed", NOT_EMPTY, 0),
+    ("load indexed, nothing", SUCCESS, 0),
+    ("load indexed, chosen", SUCCESS, 0),
+    ("load indexed", READ_FAILURE, 1),
+    ("load indexed", READ_FAILURE, 2),
 ];
 
 #[derive(Default)]
@@ -50,6 +62,8 @@ impl Tally {
         let name = match (call.request, answer.words[4]) {
             (Request::Load { .. }, 0) => "load, nothing",
             (Request::Load { .. }, 1) => "load, chosen",
+            (Request::LoadIndexed { .. }, 0) => "load indexed, nothing",
+            (Request::LoadIndexed { .. }, 1) => "load indexed, chosen",
             (request, _) => request.name(),
         };
         let line = (name, answer.words[0], answer.words[1]);

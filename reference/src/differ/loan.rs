@@ -1,58 +1,18 @@
-//! What is lent to the library for one call, with guards around it.
+//! All that is lent to the library for one call, and what the call made of it.
 
+use super::lent::Lent;
 use crate::board;
 use crate::calls::{Answer, Call, Request};
+use crate::index::Index;
 use crate::random::Random;
+use std::fmt::UpperHex;
 
-/// Guard items on either side of what is lent.
-const GUARD: usize = 64;
-
-/// What guards and unwritten answer words hold.
+/// What guards, unwritten answer words and an unwritten index hold.
 const GUARD_BYTE: u8 = 0xC3;
 const GUARD_WORD: u32 = 0xC3A5_5A3C;
 
-/// Items lent to the library, with guards around them.
-struct Lent<T> {
-    room: Vec<T>,
-    guard: T,
-    from: usize,
-    len: usize,
-}
-
-impl<T: Copy + PartialEq> Lent<T> {
-    fn new(guard: T) -> Lent<T> {
-        Lent {
-            room: Vec::new(),
-            guard,
-            from: 0,
-            len: 0,
-        }
-    }
-
-    /// Sets the items, a few places later in memory if shifted.
-    fn set(&mut self, items: &[T], shift: usize) {
-        self.room.clear();
-        self.room.resize(shift + GUARD, self.guard);
-        self.room.extend_from_slice(items);
-        self.room.resize(self.room.len() + GUARD, self.guard);
-        self.from = shift + GUARD;
-        self.len = items.len();
-    }
-
-    fn items(&self) -> &[T] {
-        &self.room[self.from..self.from + self.len]
-    }
-
-    fn items_mut(&mut self) -> &mut [T] {
-        &mut self.room[self.from..self.from + self.len]
-    }
-
-    fn guards_stand(&self) -> bool {
-        let before = &self.room[..self.from];
-        let behind = &self.room[self.from + self.len..];
-        before.iter().chain(behind).all(|item| *item == self.guard)
-    }
-}
+/// The room for an index, before a function makes one.
+const NOT_MADE: Index = [GUARD_WORD; 128];
 
 /// Everything that is lent for one call.
 pub struct Loan {
@@ -61,6 +21,10 @@ pub struct Loan {
     platforms: Lent<u8>,
     candidate: Lent<u8>,
     destination: Lent<u8>,
+    /// The index that the function takes, or nothing.
+    index: Lent<u32>,
+    /// Room for the index that the function makes.
+    made: Lent<u32>,
     answer: Lent<u32>,
 }
 
@@ -72,6 +36,8 @@ impl Loan {
             platforms: Lent::new(GUARD_BYTE),
             candidate: Lent::new(GUARD_BYTE),
             destination: Lent::new(GUARD_BYTE),
+            index: Lent::new(GUARD_WORD),
+            made: Lent::new(GUARD_WORD),
             answer: Lent::new(GUARD_WORD),
         }
     }
@@ -90,16 +56,14 @@ impl Loan {
         self.candidate.set(&call.candidate, shift());
         self.destination.set(&call.destination, shift());
         self.signatures.set(&call.signatures, shift());
+        self.index.set(lent_index(call), shift());
+        self.made.set(&NOT_MADE, shift());
         self.answer.set(&[GUARD_WORD; 16], shift());
     }
 
     /// Makes the call; the library's AX.
     pub fn run(&mut self, call: &Call) -> u32 {
-        let words: &mut [u32; 16] = self
-            .answer
-            .items_mut()
-            .try_into()
-            .expect("the answer has 16 words");
+        let words: &mut [u32; 16] = self.answer.array_mut();
         match call.request {
             Request::Update {
                 function,
@@ -125,6 +89,41 @@ impl Loan {
                 signature,
                 platform,
             } => board::load(call.loading, self.store.items(), signature, platform, words),
+            Request::Index => board::index(self.store.items(), self.made.array_mut(), words),
+            Request::IndexAfter {
+                emptied,
+                start,
+                revision,
+                size,
+                ..
+            } => board::index_after(
+                self.index.array(),
+                emptied,
+                start,
+                revision,
+                size,
+                self.made.array_mut(),
+                words,
+            ),
+            Request::ReadIndexed { block, .. } => board::read_indexed(
+                self.index.array(),
+                block,
+                self.store.items(),
+                self.destination.items_mut(),
+                words,
+            ),
+            Request::LoadIndexed {
+                signature,
+                platform,
+                ..
+            } => board::load_indexed(
+                call.loading,
+                self.index.array(),
+                self.store.items(),
+                signature,
+                platform,
+                words,
+            ),
         }
     }
 
@@ -134,24 +133,26 @@ impl Loan {
         if ax != right.ax {
             found.push(format!("the result is {ax:08X}, not {:08X}", right.ax));
         }
-        for (index, (word, wanted)) in self.answer.items().iter().zip(right.words).enumerate() {
+        for (place, (word, wanted)) in self.answer.items().iter().zip(right.words).enumerate() {
             if *word != wanted {
-                found.push(format!("answer word {index} is {word}, not {wanted}"));
+                found.push(format!("answer word {place} is {word}, not {wanted}"));
             }
         }
-        compare("store", self.store.items(), &right.store, &mut found);
-        compare(
-            "destination",
-            self.destination.items(),
-            &right.destination,
-            &mut found,
-        );
-        compare(
-            "candidate",
-            self.candidate.items(),
-            &call.candidate,
-            &mut found,
-        );
+        let made = right.index.unwrap_or(NOT_MADE);
+        found.extend(differs("words of the index made", self.made.items(), &made));
+        let lent = lent_index(call);
+        found.extend(differs("words of the index lent", self.index.items(), lent));
+        for (name, bytes, wanted) in [
+            ("bytes of the store", &self.store, &right.store),
+            (
+                "bytes of the destination",
+                &self.destination,
+                &right.destination,
+            ),
+            ("bytes of the candidate", &self.candidate, &call.candidate),
+        ] {
+            found.extend(differs(name, bytes.items(), wanted));
+        }
         if self.signatures.items() != call.signatures || self.platforms.items() != call.platforms {
             found.push("the processor list was changed".to_string());
         }
@@ -161,6 +162,8 @@ impl Loan {
             ("platforms", self.platforms.guards_stand()),
             ("candidate", self.candidate.guards_stand()),
             ("destination", self.destination.guards_stand()),
+            ("index lent", self.index.guards_stand()),
+            ("index made", self.made.guards_stand()),
             ("answer", self.answer.guards_stand()),
         ] {
             if !stand {
@@ -171,21 +174,18 @@ impl Loan {
     }
 }
 
-/// Tells how bytes differ.
-fn compare(name: &str, bytes: &[u8], right: &[u8], found: &mut Vec<String>) {
-    if bytes == right {
-        return;
-    }
-    let pairs = bytes.iter().zip(right).enumerate();
-    let wrong: Vec<usize> = pairs
-        .filter(|(_, (byte, wanted))| byte != wanted)
-        .map(|(at, _)| at)
-        .collect();
-    let first = wrong[0];
-    found.push(format!(
-        "{} bytes of the {name} differ, the first at {first}: {:02X}, not {:02X}",
-        wrong.len(),
-        bytes[first],
-        right[first]
-    ));
+/// The index that the function takes; the others are lent none.
+fn lent_index(call: &Call) -> &[u32] {
+    call.request.index().map_or(&[], |index| &index[..])
+}
+
+/// Tells how bytes or words differ.
+pub fn differs<T: PartialEq + UpperHex>(name: &str, items: &[T], right: &[T]) -> Option<String> {
+    let pairs = items.iter().zip(right).enumerate();
+    let mut wrong = pairs.filter(|(_, (item, wanted))| item != wanted);
+    let (first, (item, wanted)) = wrong.next()?;
+    let count = 1 + wrong.count();
+    Some(format!(
+        "{count} {name} differ, the first at {first}: {item:02X}, not {wanted:02X}"
+    ))
 }

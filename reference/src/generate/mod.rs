@@ -1,6 +1,7 @@
 //! Random calls, most of them nearly valid, in scenes of several calls on one store
 //! that changes as the calls are answered.
 
+mod indexes;
 mod processors;
 mod requests;
 mod stores;
@@ -8,9 +9,11 @@ mod updates;
 mod writes;
 
 use crate::calls::{Answer, Call, Request, BLOCK, FUNCTION};
+use crate::index::{Index, ALL_UNUSED, LINES};
 use crate::make;
 use crate::random::Random;
 use crate::store::Store;
+use crate::update::number;
 
 /// How freely the bytes are chosen.
 #[derive(Clone, Copy, PartialEq, Eq)]
@@ -31,6 +34,11 @@ pub struct Generator {
     known: Option<Store>,
     /// The store as it was before it was damaged for one call.
     whole: Option<Vec<u8>>,
+    /// The index of another store: the one before the last accepted write, or the last
+    /// of the scene before.
+    other: Index,
+    /// The index after the last accepted write, to be asked for.
+    carry: Option<Request>,
     /// Calls left in the scene.
     left: usize,
 }
@@ -52,6 +60,8 @@ impl Generator {
             pool: Vec::new(),
             known: None,
             whole: None,
+            other: ALL_UNUSED,
+            carry: None,
             left: 0,
         }
     }
@@ -64,6 +74,10 @@ impl Generator {
         self.left -= 1;
         if self.random.chance(15) {
             self.call.loading = !self.call.loading;
+        }
+        if self.random.chance(20) {
+            self.draw_indexed();
+            return &self.call;
         }
         match self.random.below(100) {
             0..=56 => self.draw_write(),
@@ -81,12 +95,23 @@ impl Generator {
     /// Takes over what the call left behind.
     pub fn answered(&mut self, answer: Answer) {
         self.call.destination = answer.destination;
-        self.call.loading = answer.words[3] == 1;
+        if self.call.request.takes_loading() {
+            self.call.loading = answer.words[3] == 1;
+        }
         if let Some(whole) = self.whole.take() {
             self.call.store = whole;
         } else if answer.store != self.call.store {
+            self.other = self.own_index();
             self.call.store = answer.store;
             self.known = Store::parse(&self.call.store);
+            let start = answer.words[5];
+            self.carry = Some(Request::IndexAfter {
+                old: self.other,
+                emptied: answer.words[7],
+                start,
+                revision: number(&self.call.candidate, 4),
+                size: self.own_index()[3 * LINES + start as usize],
+            });
         }
     }
 
@@ -110,6 +135,8 @@ impl Generator {
             87..=95 => self.random.between(11, 31),
             _ => 32,
         };
+        self.other = self.own_index();
+        self.carry = None;
         self.call.store = make::unused(blocks);
         self.fill_store(blocks);
         self.left = match self.style {

@@ -1,4 +1,4 @@
-//! All calls but the write: requests that are loose, unknown or nearly right.
+//! The calls that change no store: requests that are loose, unknown or nearly right.
 
 use super::Generator;
 use crate::calls::{Request, BLOCK, CANDIDATE_ROOM, DESTINATION_ROOM, FUNCTION, STORE_ROOM};
@@ -87,6 +87,9 @@ impl Generator {
         self.call.signatures = (0..signatures).map(|_| self.random.word()).collect();
         self.call.platforms = (0..platforms).map(|_| self.random.byte() >> 4).collect();
         self.known = Store::parse(&self.call.store);
+        if self.random.chance(20) {
+            self.draw_indexed();
+        }
         self.left = 0;
     }
 

@@ -123,9 +123,10 @@ impl Generator {
 
     /// Any call on a store in which one byte is changed, for this call only.
     pub(super) fn damage_store(&mut self) {
-        match self.random.below(3) {
+        match self.random.below(4) {
             0 => self.draw_write(),
             1 => self.draw_read(),
+            2 => self.draw_indexed(),
             _ => self.call.request = self.loose(FUNCTION, 0),
         }
         if self.call.store.is_empty() {

@@ -55,11 +55,14 @@ fn may_write(choice: &Choice, store: &Store, listed: &[Processor]) -> bool {
     !kept && runs.any(|run| run.iter().all(free))
 }
 
-/// The update calls' sub-function; the load choice has none.
+/// The update calls' sub-function; a read through an index is a read too, and the other
+/// functions have none.
 fn sub_function(call: &Call) -> Option<u32> {
     match call.request {
         Request::Update { sub_function, .. } => Some(sub_function),
-        Request::Load { .. } => None,
+        Request::ReadIndexed { .. } => Some(READ),
+        Request::Load { .. } | Request::LoadIndexed { .. } => None,
+        Request::Index | Request::IndexAfter { .. } => None,
     }
 }
 
@@ -71,10 +74,11 @@ fn only_an_accepted_call_changes_what_is_its_own() {
         let call = generator.draw();
         let answer = model::answer(call);
         let accepted = |own| answer.ax == 0 && sub_function(call) == Some(own);
+        let loading = call.loading && call.request.takes_loading();
         let parts = [
             (WRITE, answer.store != call.store),
             (READ, answer.destination != call.destination),
-            (CONTROL, answer.words[3] != u32::from(call.loading)),
+            (CONTROL, answer.words[3] != u32::from(loading)),
         ];
         for (count, (own, differs)) in changed.iter_mut().zip(parts) {
             assert!(accepted(own) || !differs, "{:X?}", call.request);

@@ -4,11 +4,16 @@ use crate::calls::{Answer, Call, Request};
 use crate::edges::edges;
 use crate::fast;
 use crate::generate::{Generator, Style};
+use crate::index::Index;
 use crate::model;
+
+/// What an index holds before a function makes it.
+const UNWRITTEN: Index = [0xDEAD_BEEF; 128];
 
 /// The plain form's answer to a call. The words are preset, so that one left out shows.
 pub fn plain_answer(call: &Call) -> Answer {
     let mut words = [0xDEAD_BEEF; 16];
+    let mut index = UNWRITTEN;
     let mut store = call.store.clone();
     let mut destination = call.destination.clone();
     let ax = match call.request {
@@ -36,12 +41,30 @@ pub fn plain_answer(call: &Call) -> Answer {
             signature,
             platform,
         } => fast::load(call.loading, &store, signature, platform, &mut words),
+        Request::Index => fast::index(&store, &mut index, &mut words),
+        Request::IndexAfter {
+            ref old,
+            emptied,
+            start,
+            revision,
+            size,
+        } => fast::index_after(old, emptied, start, revision, size, &mut index, &mut words),
+        Request::ReadIndexed {
+            index: ref own,
+            block,
+        } => fast::read_indexed(own, block, &store, &mut destination, &mut words),
+        Request::LoadIndexed {
+            index: ref own,
+            signature,
+            platform,
+        } => fast::load_indexed(call.loading, own, &store, signature, platform, &mut words),
     };
     Answer {
         ax,
         words,
         store,
         destination,
+        index: (index != UNWRITTEN).then_some(index),
     }
 }
 
@@ -55,6 +78,7 @@ fn agree(number: usize, call: &Call, right: &Answer) {
         plain.destination == right.destination,
         "{told}: the destination"
     );
+    assert!(plain.index == right.index, "{told}: the index");
 }
 
 #[test]

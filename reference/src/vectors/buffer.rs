@@ -1,6 +1,6 @@
 //! A buffer of the reading program, and the steps that change it.
 
-use super::{digest, FILL, LEN, PUT};
+use super::{FILL, LEN, PUT};
 
 /// A PUT carries at most so many bytes.
 const MOST_PUT: usize = 1024;
@@ -78,10 +78,6 @@ impl Buffer {
     /// What the call itself left in the buffer.
     pub fn took(&mut self, bytes: &[u8]) {
         self.bytes[..bytes.len()].copy_from_slice(bytes);
-    }
-
-    pub fn digest(&self) -> u64 {
-        digest(&self.bytes[..self.len])
     }
 }
 
