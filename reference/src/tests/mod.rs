@@ -3,6 +3,8 @@
 mod calls;
 mod easy_errors;
 mod examples;
+mod index;
+mod indexed;
 mod outcomes;
 mod plain_form;
 mod random_calls;
@@ -11,8 +13,9 @@ mod updates;
 mod vectors;
 mod writes;
 
-use crate::calls::{Answer, Call};
-use crate::edges::writing;
+use crate::calls::{Answer, Call, Request, BLOCK};
+use crate::edges::{base, writing};
+use crate::index::Index;
 use crate::make;
 use crate::model;
 use crate::store::Store;
@@ -48,13 +51,33 @@ fn written(store: &[u8], listed: &[(u32, u8)], candidate: &[u8]) -> (u32, u32) {
     (answer.words[5], answer.words[6])
 }
 
+/// The answer to a request on a store, with loading on and 4 blocks of destination.
+fn ask(store: &[u8], request: Request) -> Answer {
+    let call = Call {
+        loading: true,
+        store: store.to_vec(),
+        destination: vec![0xA5; 4 * BLOCK],
+        ..base(request)
+    };
+    let answer = model::answer(&call);
+    assert!(answer.store == store);
+    answer
+}
+
+/// The index that a valid store gives.
+fn index_of(store: &[u8]) -> Index {
+    let answer = ask(store, Request::Index);
+    assert_eq!((answer.ax, answer.words), (0, [0; 16]));
+    answer.index.expect("the function makes an index")
+}
+
 /// A refusal has nothing but its codes, and changes nothing.
 fn refused(call: &Call, answer: &Answer, ax: u32, status: u32) {
     let mut words = [0; 16];
     words[0] = ax >> 8;
     words[1] = ax & 0xFF;
     words[2] = 1;
-    words[3] = u32::from(call.loading);
+    words[3] = u32::from(call.loading && call.request.takes_loading());
     words[4] = 4;
     words[5] = status;
     assert_eq!((answer.ax, answer.words), (ax, words));
