@@ -73,6 +73,11 @@ pub fn built(store: &Store) -> Index {
     })
 }
 
+/// The index of a store's bytes; that of a bad store is all unused.
+pub fn own(store: &[u8]) -> Index {
+    Store::parse(store).map_or(ALL_UNUSED, |store| built(&store))
+}
+
 /// The index after an accepted write, from the one before it, the blocks emptied, and the
 /// candidate's start, revision and size in blocks.
 pub fn carried(old: &Index, emptied: u32, start: u32, revision: u32, size: u32) -> Index {

@@ -53,11 +53,11 @@ pub fn answer(call: &Call) -> Answer {
             revision,
             size,
         } => made(call, carried(old, emptied, start, revision, size)),
-        Request::ReadIndexed { ref index, .. } if !own(call, index) => {
+        Request::ReadIndexed { ref index, .. } if !is_own(call, index) => {
             refused(call, READ_FAILURE, 1)
         }
         Request::ReadIndexed { block, .. } => read(call, block),
-        Request::LoadIndexed { ref index, .. } if !own(call, index) => {
+        Request::LoadIndexed { ref index, .. } if !is_own(call, index) => {
             plain(call, READ_FAILURE, 1, LOAD_REFUSED_CASE, &[])
         }
         Request::LoadIndexed {
@@ -173,7 +173,7 @@ fn load(call: &Call, signature: u32, platform: u32) -> Answer {
 }
 
 /// Whether the store is valid and the index is its own.
-fn own(call: &Call, index: &Index) -> bool {
+fn is_own(call: &Call, index: &Index) -> bool {
     Store::parse(&call.store).is_some_and(|store| built(&store) == *index)
 }
 

@@ -15,7 +15,7 @@ use std::fs;
 use std::path::Path;
 
 /// How many random calls follow the edges, and from which seed.
-const RANDOM_CALLS: usize = 1140;
+const RANDOM_CALLS: usize = 1300;
 const SEED: u64 = 20;
 
 /// The steps.
@@ -186,7 +186,7 @@ pub fn vectors() -> Vectors {
 pub fn write_vectors(directory: &Path) -> Result<(), String> {
     let vectors = vectors();
     eprint!("{}", vectors.tally);
-    let missing = vectors.tally.missing();
+    let missing = vectors.tally.rarer_than(1);
     if !missing.is_empty() {
         return Err(format!("codes that no call reached: {missing:X?}"));
     }

@@ -1,6 +1,9 @@
-//! Calls at every edge that document 01 names, laid out one by one.
+//! Calls at every edge that the documents name, laid out one by one.
 
+mod carried;
 mod functions;
+mod indexed;
+mod indexes;
 mod loads;
 mod processors;
 mod reads;
@@ -11,6 +14,7 @@ mod stores;
 mod updates;
 
 use crate::calls::{Call, Request, BLOCK, PRESENCE};
+use crate::index::own;
 use crate::make::{self, p};
 use crate::update::number;
 
@@ -37,6 +41,14 @@ pub fn edges() -> Vec<Call> {
     edges.read_backs();
     edges.reads();
     edges.loads();
+    edges.indexes();
+    edges.carried_writes();
+    edges.carried_numbers();
+    edges.carried_lines();
+    edges.indexed_codes();
+    edges.indexed_numbers();
+    edges.indexed_own();
+    edges.indexed_stores();
     edges.calls
 }
 
@@ -83,23 +95,38 @@ impl Edges {
         self.push(writing(store, listed, candidate));
     }
 
-    /// A presence call, a write, a read of block 0 and a load on one store.
+    /// A presence call, the index, a read of block 0 and a load through it, a write, and
+    /// a read and a load without it, on one store.
     fn push_each(&mut self, store: &[u8]) {
+        let index = own(store);
+        let (signature, platform) = (0x650, 1);
         for request in [
             Request::update(PRESENCE),
+            Request::Index,
+            Request::ReadIndexed { index, block: 0 },
+            Request::LoadIndexed {
+                index,
+                signature,
+                platform,
+            },
             Request::write(8),
             Request::read(0),
             Request::Load {
-                signature: 0x650,
-                platform: 1,
+                signature,
+                platform,
             },
         ] {
-            self.push(Call {
-                loading: true,
-                store: store.to_vec(),
-                ..base(request)
-            });
+            self.push_on(store, request);
         }
+    }
+
+    /// A call on a store, with loading on.
+    fn push_on(&mut self, store: &[u8], request: Request) {
+        self.push(Call {
+            loading: true,
+            store: store.to_vec(),
+            ..base(request)
+        });
     }
 
     /// A candidate for unused blocks, so that only its own faults count.

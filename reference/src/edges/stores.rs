@@ -7,10 +7,12 @@ use crate::make::{self, p, Recipe};
 impl Edges {
     pub(super) fn store_lengths(&mut self) {
         for blocks in 0..=34 {
-            self.push(Call {
-                store: make::unused(blocks),
-                ..base(Request::update(PRESENCE))
-            });
+            for request in [Request::update(PRESENCE), Request::Index] {
+                self.push(Call {
+                    store: make::unused(blocks),
+                    ..base(request)
+                });
+            }
         }
         for blocks in [0, 1, 31, 32, 33, 34] {
             self.push_each(&make::unused(blocks));
@@ -35,6 +37,7 @@ impl Edges {
                 let store = make::store(blocks, &[(blocks - width, &update)]);
                 for request in [
                     Request::update(PRESENCE),
+                    Request::Index,
                     Request::read((blocks - width) as u32),
                     Request::read((blocks - 1) as u32),
                     Request::Load {

@@ -8,6 +8,7 @@ mod indexed;
 mod outcomes;
 mod plain_form;
 mod random_calls;
+mod replay;
 mod stores;
 mod updates;
 mod vectors;

@@ -1,10 +1,11 @@
-//! Tests of the vectors: their steps are read as another program reads them, and the
-//! published files are what the model answers.
+//! Tests of the vectors: their steps give back the calls, and the published files are what
+//! the model answers.
 
 use super::plain_form::plain_answer;
 use super::published;
-use crate::calls::{Answer, Call, Request, CANDIDATE_ROOM, DESTINATION_ROOM, STORE_ROOM};
-use crate::edges::edges;
+use super::replay::replay;
+use crate::calls::{Answer, Call, Request};
+use crate::edges::{base, edges};
 use crate::generate::{Generator, Style};
 use crate::model;
 use crate::vectors::{self, line, Vectors};
@@ -14,135 +15,6 @@ use std::process;
 
 /// The program that runs the vectors.
 const PROGRAM: &str = "test_vectors";
-
-/// Reads steps.
-struct Reader<'a> {
-    rest: &'a [u8],
-}
-
-impl<'a> Reader<'a> {
-    fn bytes(&mut self, count: usize) -> &'a [u8] {
-        let (bytes, rest) = self.rest.split_at(count);
-        self.rest = rest;
-        bytes
-    }
-
-    fn byte(&mut self) -> u8 {
-        self.bytes(1)[0]
-    }
-
-    fn word(&mut self) -> u32 {
-        u32::from_le_bytes(self.bytes(4).try_into().unwrap())
-    }
-
-    fn half(&mut self) -> u16 {
-        u16::from_le_bytes(self.bytes(2).try_into().unwrap())
-    }
-}
-
-/// Makes the calls that the steps ask for, and gives the lines of their answers.
-fn replay(stdin: &[u8], mut answer: impl FnMut(&Call) -> Answer) -> String {
-    let rooms = [STORE_ROOM, CANDIDATE_ROOM, DESTINATION_ROOM];
-    let mut buffers = rooms.map(|room| vec![0u8; room]);
-    let mut lengths = [0usize; 3];
-    let mut signatures = Vec::new();
-    let mut platforms = Vec::new();
-    let mut index = [0; 128];
-    let mut text = String::new();
-    let mut calls = 0;
-    let mut reader = Reader { rest: stdin };
-    while !reader.rest.is_empty() {
-        let request = match reader.byte() {
-            vectors::LEN => {
-                let buffer = usize::from(reader.byte());
-                lengths[buffer] = reader.word() as usize;
-                assert!(lengths[buffer] <= rooms[buffer]);
-                continue;
-            }
-            vectors::FILL => {
-                let buffer = usize::from(reader.byte());
-                let offset = reader.word() as usize;
-                let count = reader.word() as usize;
-                buffers[buffer][offset..offset + count].fill(reader.byte());
-                continue;
-            }
-            vectors::PUT => {
-                let buffer = usize::from(reader.byte());
-                let offset = reader.word() as usize;
-                let count = usize::from(reader.half());
-                assert!(count <= 1024);
-                buffers[buffer][offset..offset + count].copy_from_slice(reader.bytes(count));
-                continue;
-            }
-            vectors::LIST => {
-                let count = reader.byte();
-                assert!(count <= 16);
-                signatures = (0..count).map(|_| reader.word()).collect();
-                let count = reader.byte();
-                assert!(count <= 16);
-                platforms = reader.bytes(usize::from(count)).to_vec();
-                continue;
-            }
-            vectors::CALL => Request::Update {
-                function: reader.word(),
-                sub_function: reader.word(),
-                task: reader.word(),
-                block: reader.word(),
-                read_back: reader.word(),
-            },
-            vectors::LOAD => Request::Load {
-                signature: reader.word(),
-                platform: reader.word(),
-            },
-            vectors::INDEX_PUT => {
-                let place = usize::from(reader.byte());
-                index[place] = reader.word();
-                continue;
-            }
-            vectors::INDEX => Request::Index,
-            vectors::INDEX_AFTER => Request::IndexAfter {
-                old: index,
-                emptied: reader.word(),
-                start: reader.word(),
-                revision: reader.word(),
-                size: reader.word(),
-            },
-            vectors::READ_INDEXED => Request::ReadIndexed {
-                index,
-                block: reader.word(),
-            },
-            vectors::LOAD_INDEXED => Request::LoadIndexed {
-                index,
-                signature: reader.word(),
-                platform: reader.word(),
-            },
-            step => panic!("step {step}"),
-        };
-        let loading = match request {
-            Request::Update { .. } | Request::Load { .. } | Request::LoadIndexed { .. } => {
-                reader.byte()
-            }
-            _ => 0,
-        };
-        assert!(loading <= 1);
-        let lent = |buffer: usize| buffers[buffer][..lengths[buffer]].to_vec();
-        let answer = answer(&Call {
-            request,
-            loading: loading == 1,
-            store: lent(0),
-            signatures: signatures.clone(),
-            platforms: platforms.clone(),
-            candidate: lent(1),
-            destination: lent(2),
-        });
-        buffers[0][..lengths[0]].copy_from_slice(&answer.store);
-        buffers[2][..lengths[2]].copy_from_slice(&answer.destination);
-        index = answer.index.unwrap_or(index);
-        text.push_str(&line(&answer));
-        calls += 1;
-    }
-    text + &format!("{calls} calls\n")
-}
 
 #[test]
 fn the_steps_give_back_the_calls() {
@@ -169,6 +41,71 @@ fn the_steps_give_back_the_calls() {
         model::answer(call)
     });
     assert_eq!(read, calls.len());
+}
+
+#[test]
+fn a_line_has_the_answer_and_the_digests() {
+    let mut words = [0; 16];
+    words[0] = 0x92;
+    words[15] = u32::MAX;
+    let mut answer = Answer {
+        ax: 0x9201,
+        words,
+        store: vec![1, 2],
+        destination: Vec::new(),
+        index: None,
+    };
+    let begin = "00009201 146 0 0 0 0 0 0 0 0 0 0 0 0 0 0 4294967295 000003e2 00000001";
+    assert_eq!(line(&answer), format!("{begin}\n"));
+    // 31 to the power of 128, and with 5 as the last number.
+    for (number, digest) in [(0, "287f6a5f"), (5, "287f6a64")] {
+        let mut index = [0; 128];
+        index[127] = number;
+        answer.index = Some(index);
+        assert_eq!(line(&answer), format!("{begin} {digest}\n"));
+    }
+}
+
+#[test]
+fn the_steps_of_the_index() {
+    let mut vectors = Vectors::new();
+    let mut added = |request| {
+        let before = vectors.stdin.len();
+        vectors.add(&Call {
+            loading: true,
+            ..base(request)
+        });
+        vectors.stdin[before..].to_vec()
+    };
+    assert_eq!(added(Request::Index).last(), Some(&7));
+    // The index of the store is held now: P in block 1, with revision 7.
+    let mut index = [0; 128];
+    (index[1], index[33], index[65], index[97]) = (1, 1, 7, 1);
+    let block = 0x0403_0201;
+    let read = Request::ReadIndexed { index, block };
+    assert_eq!(added(read), [10, 1, 2, 3, 4]);
+    index[127] = 0x0807_0605;
+    let load = Request::LoadIndexed {
+        index,
+        signature: 0x650,
+        platform: 2,
+    };
+    let changed = [9, 127, 5, 6, 7, 8, 11, 0x50, 6, 0, 0, 2, 0, 0, 0, 1];
+    assert_eq!(added(load), changed);
+    let after = Request::IndexAfter {
+        old: index,
+        emptied: 0x8000_0002,
+        start: 0,
+        revision: 8,
+        size: 1,
+    };
+    let numbers = [8, 2, 0, 0, 0x80, 0, 0, 0, 0, 8, 0, 0, 0, 1, 0, 0, 0];
+    assert_eq!(added(after), numbers);
+    // The carried index is held now: P in block 0, and nothing else.
+    let mut index = [0; 128];
+    (index[0], index[64], index[96]) = (1, 8, 1);
+    let read = Request::ReadIndexed { index, block };
+    assert_eq!(added(read), [10, 1, 2, 3, 4]);
 }
 
 #[test]
