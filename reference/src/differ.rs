@@ -1,6 +1,8 @@
-//! Compares the library with the model on random calls: the result, every answer
-//! word, every byte lent, and guards around all that is lent.
+//! Compares the library with the model on random calls: the result, every answer word,
+//! every byte and word lent, and guards around all that is lent; and after an accepted
+//! write the index carried over it.
 
+mod carried;
 mod lent;
 mod loan;
 
@@ -65,7 +67,11 @@ pub fn differ(calls: u64, seed: u64) -> u64 {
         let right = model::answer(call);
         loan.set(call, &mut random);
         let ax = loan.run(call);
-        let differences = loan.differences(call, ax, &right);
+        let mut differences = loan.differences(call, ax, &right);
+        if right.store != call.store {
+            let (words, store) = loan.written();
+            differences.extend(carried::differences(call, &right, words, store));
+        }
         if !differences.is_empty() {
             differing += 1;
             if differing <= TOLD {

@@ -127,6 +127,11 @@ impl Loan {
         }
     }
 
+    /// The answer words and the store after a write.
+    pub fn written(&self) -> (&[u32; 16], &[u8]) {
+        (self.answer.array(), self.store.items())
+    }
+
     /// What is not as the model says, in words.
     pub fn differences(&self, call: &Call, ax: u32, right: &Answer) -> Vec<String> {
         let mut found = Vec::new();

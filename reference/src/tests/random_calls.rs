@@ -2,6 +2,7 @@
 
 use crate::calls::{Answer, Call, Request, CANDIDATE_ROOM, DESTINATION_ROOM, STORE_ROOM};
 use crate::generate::{Generator, Style};
+use crate::index::{built, Index};
 use crate::model;
 use crate::store::Store;
 use crate::tally::Tally;
@@ -173,5 +174,49 @@ fn no_call_lends_more_than_there_is_room() {
             most.iter().zip(rooms).all(|(most, room)| *most <= room),
             "{most:?}"
         );
+    }
+}
+
+/// How an index differs from the store's own.
+fn kinds_of(call: &Call, index: &Index) -> Vec<&'static str> {
+    let Some(store) = Store::parse(&call.store) else {
+        let zeros = index.iter().all(|&number| number == 0);
+        return vec![if zeros { "bad, zeros" } else { "bad, others" }];
+    };
+    let own = built(&store);
+    let wrong: Vec<usize> = (0..128).filter(|&at| index[at] != own[at]).collect();
+    let mut kinds = vec![match wrong[..] {
+        [] => "own",
+        [at] => ["kind", "start", "revision", "size"][at / 32],
+        _ => "several",
+    }];
+    if !wrong.is_empty() && wrong.iter().all(|at| at % 32 >= store.blocks) {
+        kinds.push("behind N only");
+    }
+    if index[..32].iter().any(|&kind| kind > 2) {
+        kinds.push("no kind");
+    }
+    kinds
+}
+
+#[test]
+fn indexes_of_every_kind_are_drawn() {
+    for (style, seed) in [(Style::Wide, 1), (Style::Compact, 2)] {
+        let mut counts: BTreeMap<&str, u64> = BTreeMap::new();
+        each_call(style, seed, |call, _| {
+            if let Request::ReadIndexed { index, .. } | Request::LoadIndexed { index, .. } =
+                &call.request
+            {
+                for kind in kinds_of(call, index) {
+                    *counts.entry(kind).or_default() += 1;
+                }
+            }
+        });
+        let single = ["kind", "start", "revision", "size"];
+        let others = ["own", "several", "behind N only", "no kind"];
+        let bad = ["bad, zeros", "bad, others"];
+        for kind in single.iter().chain(&others).chain(&bad) {
+            assert!(counts.get(kind) >= Some(&OFTEN), "{kind}: {counts:?}");
+        }
     }
 }
