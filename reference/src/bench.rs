@@ -6,17 +6,18 @@
 //! write is accepted, the store is put back by a copy before every call, and the time
 //! of that copy alone is taken off both sides.
 
+mod indexed;
+mod sides;
+mod table;
 mod works;
 
-use crate::board;
-use crate::calls::{Call, Request};
-use crate::fast;
-use crate::index::{Index, ALL_UNUSED};
+use crate::calls::Call;
+use sides::{library, nothing, rust, Output};
 use std::env;
 use std::hint::black_box;
 use std::process::Command;
 use std::time::Instant;
-use works::{growth_name, works, Work, GROWTH};
+use works::{works, Work};
 
 /// The command of one whole run.
 pub const ONE_RUN: &str = "bench-run";
@@ -31,93 +32,6 @@ const ROUND: f64 = 200_000.0;
 struct Times {
     library: f64,
     rust: f64,
-}
-
-impl Times {
-    fn ratio(&self) -> f64 {
-        self.library / self.rust
-    }
-}
-
-/// What a call writes beside the store and the destination.
-#[derive(PartialEq)]
-struct Output {
-    words: [u32; 16],
-    index: Index,
-}
-
-impl Output {
-    fn new() -> Output {
-        Output {
-            words: [0; 16],
-            index: ALL_UNUSED,
-        }
-    }
-}
-
-/// Runs a call on one of the two sides.
-macro_rules! side {
-    ($name:ident, $form:ident) => {
-        fn $name(call: &mut Call, output: &mut Output) -> u32 {
-            let words = &mut output.words;
-            match call.request {
-                Request::Update {
-                    function,
-                    sub_function,
-                    task,
-                    block,
-                    read_back,
-                } => $form::call(
-                    function,
-                    sub_function,
-                    task,
-                    block,
-                    call.loading,
-                    &mut call.store,
-                    &call.signatures,
-                    &call.platforms,
-                    &call.candidate,
-                    read_back,
-                    &mut call.destination,
-                    words,
-                ),
-                Request::Load {
-                    signature,
-                    platform,
-                } => $form::load(call.loading, &call.store, signature, platform, words),
-                Request::Index => $form::index(&call.store, &mut output.index, words),
-                Request::IndexAfter {
-                    ref old,
-                    emptied,
-                    start,
-                    revision,
-                    size,
-                } => {
-                    let index = &mut output.index;
-                    $form::index_after(old, emptied, start, revision, size, index, words)
-                }
-                Request::ReadIndexed { ref index, block } => {
-                    $form::read_indexed(index, block, &call.store, &mut call.destination, words)
-                }
-                Request::LoadIndexed {
-                    ref index,
-                    signature,
-                    platform,
-                } => {
-                    let store = &call.store;
-                    $form::load_indexed(call.loading, index, store, signature, platform, words)
-                }
-            }
-        }
-    };
-}
-
-side!(library, board);
-side!(rust, fast);
-
-/// No call at all: what is left is the copy that puts the store back.
-fn nothing(_: &mut Call, _: &mut Output) -> u32 {
-    0
 }
 
 /// The time of one turn, over a round of turns.
@@ -185,11 +99,6 @@ impl Work {
     }
 }
 
-/// Bytes in so many nanoseconds, as gigabytes a second.
-fn speed(bytes: usize, time: f64) -> f64 {
-    bytes as f64 / time
-}
-
 /// One whole run: a line for each work, with the two times.
 pub fn one_run() {
     let works = works();
@@ -238,59 +147,6 @@ pub fn bench(runs: usize) -> Result<(), String> {
         }
     }
 
-    println!("Times are nanoseconds a call, the least of {runs} runs of {ROUNDS} rounds each.");
-    println!("For accepted writes the copy that puts the store back is taken off both sides.");
-    println!("The ratio is library by Rust, of each run: its median, least and greatest.");
-    println!("Speeds are GB a second, of the scans.");
-    println!();
-    println!(
-        "{:<48} {:>10} {:>10} {:>7} {:>7} {:>7} {:>8} {:>8}",
-        "work", "library", "Rust", "ratio", "least", "most", "library", "Rust"
-    );
-    let mut growth = Vec::new();
-    for (work, times) in works.iter().zip(&times) {
-        let least = Times {
-            library: times
-                .iter()
-                .fold(f64::MAX, |least, one| least.min(one.library)),
-            rust: times
-                .iter()
-                .fold(f64::MAX, |least, one| least.min(one.rust)),
-        };
-        let mut ratios: Vec<f64> = times.iter().map(Times::ratio).collect();
-        ratios.sort_by(f64::total_cmp);
-        print!(
-            "{:<48} {:>10.1} {:>10.1} {:>7.3} {:>7.3} {:>7.3}",
-            work.name,
-            least.library,
-            least.rust,
-            ratios[runs / 2],
-            ratios[0],
-            ratios[runs - 1]
-        );
-        if let Some(bytes) = work.scanned {
-            print!(
-                " {:>8.2} {:>8.2}",
-                speed(bytes, least.library),
-                speed(bytes, least.rust)
-            );
-        }
-        println!();
-        for blocks in GROWTH {
-            if work.name == growth_name(blocks) {
-                growth.push((blocks, least));
-            }
-        }
-    }
-
-    println!();
-    println!("How a scan of one-block updates grows, nanoseconds a block:");
-    for (blocks, least) in growth {
-        println!(
-            "N = {blocks:>2}: library {:>8.1}, Rust {:>8.1}",
-            least.library / blocks as f64,
-            least.rust / blocks as f64
-        );
-    }
+    table::print(&works, &times, runs);
     Ok(())
 }

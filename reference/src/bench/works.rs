@@ -1,5 +1,6 @@
 //! The kinds of work that are timed.
 
+use super::indexed::indexed_works;
 use crate::calls::{Call, Request, BLOCK, PRESENCE};
 use crate::edges::{base, writing};
 use crate::make::{self, Recipe};
@@ -13,34 +14,37 @@ pub struct Work {
     pub ax: u32,
     /// The bytes that a scan reads, if the work is a scan.
     pub scanned: Option<usize>,
+    /// The name of the work that does the same without an index.
+    pub beside: Option<String>,
 }
 
 impl Work {
-    fn new(name: &str, call: Call, ax: u32) -> Work {
+    pub fn new(name: &str, call: Call, ax: u32) -> Work {
         Work {
             name: name.to_string(),
             call,
             ax,
             scanned: None,
+            beside: None,
         }
     }
 
     /// A presence call, which reads the whole store.
     fn scan(name: &str, store: Vec<u8>) -> Work {
+        let scanned = Some(store.len());
+        let call = Call {
+            store,
+            ..base(Request::update(PRESENCE))
+        };
         Work {
-            name: name.to_string(),
-            scanned: Some(store.len()),
-            call: Call {
-                store,
-                ..base(Request::update(PRESENCE))
-            },
-            ax: 0,
+            scanned,
+            ..Work::new(name, call, 0)
         }
     }
 }
 
 /// One-block updates that do not share, each with so many pairs.
-fn one_block_updates(blocks: usize, pairs: usize) -> Vec<u8> {
+pub fn one_block_updates(blocks: usize, pairs: usize) -> Vec<u8> {
     let mut store = make::unused(blocks);
     for block in 0..blocks {
         let own: Vec<Pair> = (0..pairs)
@@ -65,7 +69,10 @@ pub fn growth_name(blocks: usize) -> String {
     format!("presence, one-block updates, N = {blocks}")
 }
 
-pub fn works() -> Vec<Work> {
+pub const UNUSED_BLOCKS: &str = "presence, 32 unused blocks";
+
+fn scans() -> Vec<Work> {
+    let two = (sixteen_blocks(0x1000, 65), sixteen_blocks(0x2000, 65));
     let mut works = vec![
         Work::scan(
             "presence, one update of 2 KB",
@@ -83,50 +90,69 @@ pub fn works() -> Vec<Work> {
             one_block_updates(blocks, 1),
         ));
     }
-    works.push(Work::scan("presence, 32 unused blocks", make::unused(32)));
+    works.push(Work::scan(UNUSED_BLOCKS, make::unused(32)));
     works.push(Work::scan(
         "presence, 32 updates with 60 entries",
         one_block_updates(32, 61),
     ));
     works.push(Work::scan(
         "presence, two of 32 KB with 64 entries",
-        make::store(
-            32,
-            &[
-                (0, &sixteen_blocks(0x1000, 65)),
-                (16, &sixteen_blocks(0x2000, 65)),
-            ],
+        make::store(32, &[(0, &two.0), (16, &two.1)]),
+    ));
+    works
+}
+
+fn reads() -> Vec<Work> {
+    let read = |name: &str, store, block, blocks: usize| {
+        let call = Call {
+            store,
+            destination: vec![0; blocks * BLOCK],
+            ..base(Request::read(block))
+        };
+        Work::new(name, call, 0)
+    };
+    let sixteen = make::store(16, &[(0, &sixteen_blocks(0x700, 1))]);
+    let mut works = vec![
+        read(
+            "read of one block",
+            make::store(1, &[(0, &make::p(7))]),
+            0,
+            1,
         ),
-    ));
-    works.push(Work::new(
-        "read of one block",
-        Call {
-            store: make::store(1, &[(0, &make::p(7))]),
-            ..base(Request::read(0))
-        },
-        0,
-    ));
-    works.push(Work::new(
-        "read of 16 blocks",
-        Call {
-            store: make::store(16, &[(0, &sixteen_blocks(0x700, 1))]),
-            destination: vec![0; 16 * BLOCK],
-            ..base(Request::read(0))
-        },
-        0,
-    ));
-    works.push(Work::new(
-        "load choice, the last of 32 updates",
-        Call {
+        read("read of 16 blocks", sixteen, 0, 16),
+    ];
+    for blocks in [8, 32] {
+        works.push(read(
+            &format!("read of the last of {blocks} blocks"),
+            one_block_updates(blocks, 1),
+            blocks as u32 - 1,
+            1,
+        ));
+    }
+    works
+}
+
+fn loads() -> Vec<Work> {
+    let load = |name: &str, blocks| {
+        let call = Call {
             loading: true,
-            store: one_block_updates(32, 1),
+            store: one_block_updates(blocks, 1),
             ..base(Request::Load {
-                signature: 0x20_000,
+                signature: 0x1000 * blocks as u32,
                 platform: 0,
             })
-        },
-        0,
-    ));
+        };
+        Work::new(name, call, 0)
+    };
+    vec![
+        load("load choice, the only update", 1),
+        load("load choice, the last of 8 updates", 8),
+        load("load choice, the last of 32 updates", 32),
+    ]
+}
+
+fn writes() -> Vec<Work> {
+    let mut works = Vec::new();
     for blocks in GROWTH {
         let store = one_block_updates(blocks, 1);
         let signature = 0x1000 * blocks as u32;
@@ -153,17 +179,25 @@ pub fn works() -> Vec<Work> {
         ),
         0,
     ));
+    works
+}
+
+/// All works, those with the index last.
+pub fn works() -> Vec<Work> {
+    let unknown = base(Request::Update {
+        function: 0x1D042,
+        sub_function: 0,
+        task: 0,
+        block: 0,
+        read_back: 0,
+    });
+    let mut works = scans();
+    works.extend(reads());
+    works.extend(loads());
+    works.extend(writes());
     works.push(Work::new("control", base(Request::control(2)), 0));
-    works.push(Work::new(
-        "unknown function",
-        base(Request::Update {
-            function: 0x1D042,
-            sub_function: 0,
-            task: 0,
-            block: 0,
-            read_back: 0,
-        }),
-        0x8600,
-    ));
+    works.push(Work::new("unknown function", unknown, 0x8600));
+    let indexed = indexed_works(&works);
+    works.extend(indexed);
     works
 }

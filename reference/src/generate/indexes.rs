@@ -67,7 +67,7 @@ impl Generator {
         } else {
             self.random.below(LINES)
         };
-        let column = self.random.below(4);
+        let column = self.random.pick(&[0, 0, 1, 2, 3]);
         let number = &mut index[column * LINES + line];
         *number = match self.random.below(6) {
             0 => number.wrapping_add(1),
