@@ -1,5 +1,5 @@
-//! A second implementation of the update store, made from document 01 alone, to check
-//! the library against.
+//! A second implementation of the update store, made from the owner's documents alone, to
+//! check the library against.
 
 #[cfg(feature = "board")]
 mod bench;

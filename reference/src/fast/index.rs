@@ -1,9 +1,11 @@
 //! The functions of the index, plain and fast: the index is filled from the directory, and
 //! what goes through an index goes by its lines once it is known to be the store's own.
 
+use super::directory::Directory;
+use super::load::{lay_choice, Choice};
 use super::{
-    copy_blocks, lay_choice, lay_refusal, Choice, Directory, Refusal, BAD_LIST, BAD_STORE,
-    MOST_BLOCKS, NOT_EMPTY, UPDATE_NUM_INVALID,
+    copy_blocks, lay_refusal, Refusal, BAD_LIST, BAD_STORE, MOST_BLOCKS, NOT_EMPTY,
+    UPDATE_NUM_INVALID,
 };
 
 /// 32 kinds, 32 starts, 32 revisions, 32 sizes.
