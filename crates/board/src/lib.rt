@@ -2,8 +2,17 @@
 ghost use mathlib.Core.Path.{_≡_};
 ghost use Rattle.call_dispatch.specs.Call.{inputsOf, callReply, callStore, callDestination};
 ghost use Rattle.load_choice.specs.Load.{loadChoice};
-ghost use Rattle.board_call_words.specs.Words.{axOf, callWords};
+ghost use Rattle.board_call_words.specs.Words.{axOf, answerWords, callWords};
 ghost use Rattle.board_load_words.specs.LoadWords.{loadAx, loadWords};
+ghost use lib.ListN.{length};
+ghost use mathlib.Core.Bool.{false};
+ghost use Rattle.store_index.specs.IndexAfter.{indexAfter};
+ghost use Rattle.call_indexed.specs.IndexCall.{indexReply};
+ghost use Rattle.call_indexed.specs.IndexedRead.{indexedAnswer, indexedBytes};
+ghost use Rattle.load_indexed.specs.IndexedLoad.{indexedChoice};
+ghost use Rattle.board_index_words.specs.IndexWords.{indexWords, wordsIndex};
+ghost use Rattle.board_index_words.specs.IndexAnswerWords.{replyWords, replyAx, carriedWords};
+use store_index::after;
 
 // The image of AX of NOT_IMPLEMENTED.
 const UNKNOWN: u32 = 0x8600;
@@ -77,6 +86,91 @@ pub extern "C" fn update_store_load(
         (now (store .entry)) signature platform) ⌝ }
 {
     let choice = load_choice::choose(loading, store, signature, platform);
+    board_load_words::load_words(choice, loading, store, answer);
+    board_load_words::load_ax(choice)
+}
+
+// The index of a store, all unused for a bad one.
+#[no_mangle]
+pub extern "C" fn update_store_index(
+    store: &[u8],
+    index: &mut [u32; 128],
+    answer: &mut [u32; 16],
+) -> u32
+    ensures result { λ r. ⌜ r ≡ replyAx (indexReply (now (store .entry))) ⌝ }
+    ensures makes { λ r. ⌜ now (index .exit) ≡ indexWords (indexReply (now (store .entry)) .index) ⌝ }
+    ensures answers { λ r. ⌜ now (answer .exit) ≡ replyWords (indexReply (now (store .entry))) ⌝ }
+{
+    let reply = call_indexed::index::index(store);
+    let x = reply.index;
+    board_index_words::put_index(index, x);
+    let case = board_index_words::index_case(reply.ah);
+    board_row::put(answer, reply.ah, reply.al, 0, case, 0, 0, 0, 0);
+    reply.ah as u32 * 256 + reply.al as u32
+}
+
+// The index after an accepted write. It is never refused.
+#[no_mangle]
+pub extern "C" fn update_store_index_after(
+    old: &[u32; 128],
+    emptied: u32,
+    start: u32,
+    revision: u32,
+    size: u32,
+    new_index: &mut [u32; 128],
+    answer: &mut [u32; 16],
+) -> u32
+    ensures result { λ r. ⌜ r ≡ 0 ⌝ }
+    ensures makes { λ r. ⌜ now («new_index» .exit) ≡ indexWords (indexAfter (wordsIndex (now (old .entry))) emptied start revision size) ⌝ }
+    ensures answers { λ r. ⌜ now (answer .exit) ≡ carriedWords ⌝ }
+{
+    let x = board_index_words::index_from(old);
+    board_index_words::put_index(
+        new_index,
+        after::index_after(x, emptied, start, revision, size),
+    );
+    *answer = [0; 16];
+    0
+}
+
+// A read through an index.
+#[no_mangle]
+pub extern "C" fn update_store_read_indexed(
+    index: &[u32; 128],
+    block: u32,
+    store: &[u8],
+    destination: &mut [u8],
+    answer: &mut [u32; 16],
+) -> u32
+    ensures result { λ r. ⌜ r ≡ axOf (indexedAnswer (now (store .entry)) (wordsIndex (now (index .entry))) block
+        (length (now (destination .entry)))) ⌝ }
+    ensures answers { λ r. ⌜ now (answer .exit) ≡ answerWords (indexedAnswer (now (store .entry)) (wordsIndex (now (index .entry)))
+        block (length (now (destination .entry)))) false ⌝ }
+    ensures copies { λ r. ⌜ now (destination .exit) ≡ indexedBytes (now (store .entry)) (wordsIndex (now (index .entry))) block
+        (now (destination .entry)) ⌝ }
+{
+    let x = board_index_words::index_from(index);
+    let a = call_indexed::read::read_indexed(store, x, block, destination);
+    board_call_words::call_words(a, false, answer);
+    board_call_words::ax(a)
+}
+
+// The load choice through an index.
+#[no_mangle]
+pub extern "C" fn update_store_load_indexed(
+    loading: bool,
+    index: &[u32; 128],
+    store: &[u8],
+    signature: u32,
+    platform: u32,
+    answer: &mut [u32; 16],
+) -> u32
+    ensures result { λ r. ⌜ r ≡ loadAx (indexedChoice loading (now (store .entry)) (wordsIndex (now (index .entry))) signature platform) ⌝ }
+    ensures answers { λ r. ⌜ now (answer .exit) ≡ loadWords loading (now (store .entry)) (indexedChoice loading
+        (now (store .entry)) (wordsIndex (now (index .entry))) signature platform) ⌝ }
+{
+    let x = board_index_words::index_from(index);
+    let choice = load_indexed::choose(loading, store, x, signature, platform);
     board_load_words::load_words(choice, loading, store, answer);
     board_load_words::load_ax(choice)
 }

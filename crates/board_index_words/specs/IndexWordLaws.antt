@@ -1,21 +1,41 @@
 -- Laws of the words of an index.
 --   placedFrom         number c of a column that is put at `at`
+--   put-none, put-more     a loop that puts a column
 --   words-made         four columns, one put behind the other, are the words of an index
+--   reply-row          the answer words of the index call
 use Prim.Native.Nat.{ℕ, _+_, _-_, _<_, _≤_}
 use mathlib.Core.Path.{_≡_, refl, sym, ap, _∙_}
 use mathlib.Core.List.{List, _++_}
 use mathlib.Core.Logic.{⊎-elim}
 use native.Mathlib.Omega.{arith}
-use lib.ListN.{length, getD, length-append, List·getD-append}
+use lib.ListN.{length, getD, set, length-append, List·getD-append}
 use lib.Seq.{ext-getD, getD-append-add}
 use Rattle.laws.specs.Orders.{le-or-lt}
 use Rattle.laws.specs.Tabulate.{length-tabulate, getD-tabulate}
-use Rattle.store_index.specs.UpdateLines.{Spread}
+use Rattle.store_index.specs.UpdateLines.{Spread, spread-none, spread-more}
 use Rattle.store_index.specs.declared.Index.{Index}
+use Rattle.call_indexed.specs.IndexCall.{indexReply}
+use Rattle.call_indexed.specs.IndexCallLaws.{reply-carry}
+use Rattle.call_indexed.specs.declared.index.IndexReply.{IndexReply}
+use Rattle.board_row.specs.Row.{rowOf}
 use Rattle.board_index_words.specs.IndexWords.{wordFrom, column, part, indexWords}
+use Rattle.board_index_words.specs.IndexAnswerWords.{indexCase, replyWords}
 
 unfoldable pub placedFrom : List ℕ → ℕ → ℕ → ℕ
 placedFrom numbers at c = getD numbers (c - at) 0
+
+-- a loop that puts a column: its start and its turn
+module _ (numbers : List ℕ) (at : ℕ) (old : List ℕ) where
+  pub put-none : Spread (placedFrom numbers at) at (at + 0) old old
+  put-none = let e : at + 0 ≡ at = omega arith in rw e (spread-none (placedFrom numbers at) at old)
+
+  pub put-more : (i : ℕ) (new : List ℕ) → Spread (placedFrom numbers at) at (at + i) old new → at + i < length old
+      → Spread (placedFrom numbers at) at (at + (i + 1)) old (set new (at + i) (getD numbers i 0))
+  unfolding placedFrom
+  put-more i new h l =
+      let e : at + (i + 1) ≡ at + i + 1 = omega arith in
+      let q : i ≡ at + i - at = omega arith in
+      rw e (spread-more (placedFrom numbers at) at old (at + i) (getD numbers i 0) new h (omega arith) l (ap (λ (j : ℕ). getD numbers j 0) q))
 
 part-long : (xs : List ℕ) → length (part xs) ≡ 32
 unfolding column
@@ -101,3 +121,9 @@ module _ (x : Index) where
 
     pub words-made : w4 ≡ indexWords x
     words-made = ext-getD 0 w4 (indexWords x) (all-long ∙ sym words-long) (λ i l. word i (omega (arith, all-long)))
+
+-- r is what the index call answered
+pub reply-row : (s : List ℕ) (r : IndexReply) (case : ℕ) (words : List ℕ) → r ≡ indexReply s → case ≡ indexCase (r .ah) → words ≡ rowOf (r .ah) (r .al) 0 case 0 0 0 0
+    → words ≡ replyWords (indexReply s)
+unfolding replyWords rowOf
+reply-row s r case words e f h = h ∙ rw (f, e, reply-carry s)

@@ -1,11 +1,13 @@
--- The two ways of the index call.
---   reply-bad, reply-good     d is the directory that was read, y the index that was made
+-- Laws of the index call.
+--   reply-bad, reply-good     its two ways: d is the directory that was read, y the index that was made
+--   reply-carry               carry is set exactly if AH is not 0
 use Prim.Native.Nat.{ℕ}
-use mathlib.Core.Path.{_≡_, ap, _∙_}
-use mathlib.Core.Bool.{true, false}
+use mathlib.Core.Path.{_≡_, refl}
+use mathlib.Core.Bool.{Bool, true, false, not}
 use mathlib.Core.List.{List}
+use lib.Dec.{eqb}
 use Rattle.laws.specs.Unless.{unless}
-use Rattle.store_directory.specs.Scan.{directory}
+use Rattle.store_directory.specs.Scan.{storeOk, directory}
 use Rattle.store_directory.specs.StoreLaws.{directory-ok}
 use Rattle.store_directory.specs.declared.Directory.{Directory}
 use Rattle.store_index.specs.Index.{allUnused, indexOf}
@@ -21,3 +23,12 @@ module _ (s : List ℕ) (d : Directory) (e : d ≡ directory s) (y : Index) wher
   pub reply-good : d .ok ≡ true → y ≡ indexOf s → replied y SUCCESS none false ≡ indexReply s
   unfolding indexReply unless
   reply-good h f = rw (← directory-ok s d e, h, f)
+
+pub reply-carry : (s : List ℕ) → indexReply s .carry ≡ not (eqb (indexReply s .ah) SUCCESS)
+unfolding indexReply unless
+reply-carry s = go (storeOk s)
+  where
+    go : (t : Bool) → unless t (replied allUnused READ-FAILURE bad-store true) (replied (indexOf s) SUCCESS none false) .carry
+        ≡ not (eqb (unless t (replied allUnused READ-FAILURE bad-store true) (replied (indexOf s) SUCCESS none false) .ah) SUCCESS)
+    go true = refl
+    go false = refl
