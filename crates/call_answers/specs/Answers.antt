@@ -50,7 +50,7 @@ abbrev pub numbersOf : Answer → List ℕ
 numbersOf (Presence a) =
     a .byte0 ∷ a .byte1 ∷ a .byte2 ∷ a .byte3 ∷ a .byte4 ∷ a .byte5 ∷ a .byte6 ∷ a .byte7
     ∷ a .«loader_version» ∷ a .blocks ∷ []
-numbersOf (Written a) = a .start ∷ a .emptied ∷ []
+numbersOf (Written a) = a .start ∷ a .emptied ∷ a .«emptied_blocks» ∷ []
 numbersOf (Control a) = a .status ∷ []
 numbersOf (Read a) = a .blocks ∷ []
 numbersOf (Refused a) = a .status ∷ []

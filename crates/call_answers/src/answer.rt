@@ -19,10 +19,11 @@ pub struct Presence {
     pub carry: bool,
 }
 
-// The start block, and how many stored updates were emptied.
+// The start block, how many stored updates were emptied, and their blocks: bit b for each block b of an emptied update.
 pub struct Written {
     pub start: u32,
     pub emptied: u32,
+    pub emptied_blocks: u32,
     pub ah: u8,
     pub al: u8,
     pub carry: bool,

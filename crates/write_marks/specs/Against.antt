@@ -5,10 +5,13 @@
 --   ruledOut   some update rules s out (check 8)
 --   lost       how many are lost
 --   bothMarks  update i shares and is needed, so that it rules every start out (check 7)
+--   emptiesBlock    update i is emptied, and block c is one of its blocks
+--   emptiedBlock    block c is one of an emptied update's
 use Prim.Native.Nat.{ℕ}
 use mathlib.Core.Bool.{Bool, _&&_}
 use Rattle.laws.specs.Below.{anyBelow}
 use Rattle.laws.specs.Count.{countBelow}
+use Rattle.laws.specs.Span.{spans}
 use Rattle.write_overlap.specs.Overlap as overlap
 use Rattle.write_marks.specs.StoredUpdates.{StoredUpdates}
 
@@ -41,3 +44,11 @@ lost h k s = countBelow (h .count) (loses h k s)
 -- it has both marks
 unfoldable pub bothMarks : StoredUpdates → ℕ → Bool
 bothMarks h i = h .shares i && h .needed i
+
+-- block c is one of update i's, which is emptied
+unfoldable pub emptiesBlock : StoredUpdates → ℕ → ℕ → ℕ → ℕ → Bool
+emptiesBlock h k s c i = emptiedByNumber h k s i && spans (h .start i) (h .size i) c
+
+-- block c is one of an emptied update's
+unfoldable pub emptiedBlock : StoredUpdates → ℕ → ℕ → ℕ → Bool
+emptiedBlock h k s c = anyBelow (h .count) (emptiesBlock h k s c)

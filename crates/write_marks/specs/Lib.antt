@@ -3,3 +3,4 @@ pub mod StoredUpdates
 pub mod Against
 pub mod StoredMarks
 pub mod Capped
+pub mod EmptiedBits

@@ -2,6 +2,7 @@
 --   StoredUpdates     their starts, sizes and marks
 --   Holds    a block is one of an update's
 --   Laid     they lie as a store's updates do
+--   Fitting  none is empty, and all end in time
 use Prim.Native.Nat.{ℕ, _+_, _<_, _≤_}
 use mathlib.Core.Bool.{Bool}
 use Rattle.laws.specs.Span.{Spans}
@@ -25,3 +26,8 @@ pub record Laid (n : ℕ) (h : StoredUpdates) : Type 0 where
   pub some : (i : ℕ) → i < h .count → 1 ≤ h .size i
   pub inside : (i : ℕ) → i < h .count → h .start i + h .size i ≤ n
   pub apart : (i j : ℕ) → i < j → j < h .count → h .start i + h .size i ≤ h .start j
+
+-- none is empty, each ends at block n or before
+pub record Fitting (n : ℕ) (h : StoredUpdates) : Type 0 where
+  pub some : (i : ℕ) → i < h .count → 1 ≤ h .size i
+  pub inside : (i : ℕ) → i < h .count → h .start i + h .size i ≤ n

@@ -2,11 +2,14 @@
 ghost use mathlib.Core.Path.{_≡_};
 ghost use mathlib.Core.Bool.{false, _&&_};
 ghost use mathlib.Core.List.{[]};
-ghost use Prim.Native.Nat.{_≤_};
+ghost use Prim.Native.Nat.{_+_, _≤_};
 ghost use Rattle.laws.specs.Below.{anyBelow};
 ghost use Rattle.laws.specs.Count.{countBelow};
 ghost use Rattle.laws.specs.Arrays.{Filled, markAt};
-ghost use Rattle.write_marks.specs.Against.{fills, ruledOut, lost};
+ghost use Rattle.laws.specs.Bits.{bitsBelow};
+ghost use Rattle.laws.specs.Span.{spans};
+ghost use Rattle.write_marks.specs.StoredUpdates.{Fitting};
+ghost use Rattle.write_marks.specs.Against.{fills, ruledOut, lost, emptiedBlock};
 ghost use Rattle.write_marks.specs.Capped.{capped};
 ghost use Rattle.write_marks.specs.StoredMarks.{storedOf, marksOf, bothAt};
 use store_blocks::MOST_BLOCKS;
@@ -138,4 +141,40 @@ pub fn to_fill<'a>(
         i += 1;
     }
     marks
+}
+
+// A bit for each of 32 blocks.
+const ALL_BLOCKS: u32 = 0xFFFF_FFFF;
+
+// The bits of the `size` blocks from `start` on.
+fn block_bits(start: u8, size: u8) -> u32
+    requires { ⌜ (1 ≤ size) × (start + size ≤ 32) ⌝ }
+    ensures { λ r. ⌜ r ≡ bitsBelow 32 (spans start size) ⌝ }
+{
+    (ALL_BLOCKS >> (32 - size as u32)) << (start as u32)
+}
+
+// Bit b for each block b of an update that is emptied if the candidate goes to `s`, in the run or not.
+pub fn emptied_blocks<'a>(
+    starts: &'a [u8; MOST_BLOCKS],
+    sizes: &'a [u8; MOST_BLOCKS],
+    shares: &'a [bool; MOST_BLOCKS],
+    count: usize,
+    k: u32,
+    s: u32,
+) -> u32
+    requires { ⌜ (count ≤ 32) × Fitting 32 (storedOf (marksOf (now starts) (now sizes) (now shares) [] count)) ⌝ }
+    ensures { λ r. ⌜ r ≡ bitsBelow 32 (emptiedBlock (storedOf (marksOf (now (starts .entry)) (now (sizes .entry))
+        (now (shares .entry)) [] count)) k s) ⌝ }
+{
+    let mut bits: u32 = 0;
+    let mut i: usize = 0;
+    while i < count {
+        let at = i;
+        i += 1;
+        if write_overlap::is_emptied(starts[at], sizes[at], shares[at], k, s) {
+            bits = bits | block_bits(starts[at], sizes[at]);
+        }
+    }
+    bits
 }

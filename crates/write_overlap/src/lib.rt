@@ -16,7 +16,7 @@ fn touches(start: u8, size: u8, k: u32, s: u32) -> bool
 }
 
 // Is the update emptied if the candidate goes to `s`?
-fn is_emptied(start: u8, size: u8, shares: bool, k: u32, s: u32) -> bool
+pub fn is_emptied(start: u8, size: u8, shares: bool, k: u32, s: u32) -> bool
     ensures { λ r. ⌜ r ≡ isEmptied start size shares k s ⌝ }
 {
     if shares {
