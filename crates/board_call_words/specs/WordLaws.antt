@@ -26,7 +26,7 @@ module _ (a : Answer) (loading : Bool) (on : ℕ) (e : on ≡ flagWord loading) 
   presence-words p h = let k = rw h at c in rw (h, e, k .0, k .1, k .2)
 
   module _ (r : List ℕ) where
-    pub written-words : (w : WrittenNumbers) → a ≡ Written w → r ≡ rowOf 0 0 on 1 (w .start) (w .emptied) 0 0 → r ≡ answerWords a loading
+    pub written-words : (w : WrittenNumbers) → a ≡ Written w → r ≡ rowOf 0 0 on 1 (w .start) (w .emptied) (w .«emptied_blocks») 0 → r ≡ answerWords a loading
     unfolding answerWords rowOf Coded
     written-words w h k = let q = rw h at c in k ∙ rw (h, e, q .0, q .1, q .2)
 

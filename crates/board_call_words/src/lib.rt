@@ -55,7 +55,9 @@ pub fn call_words(a: Answer, loading: bool, answer: &mut [u32; 16])
                 0,
             ];
         }
-        Answer::Written(w) => board_row::put(answer, 0, 0, on, 1, w.start, w.emptied, 0, 0),
+        Answer::Written(w) => {
+            board_row::put(answer, 0, 0, on, 1, w.start, w.emptied, w.emptied_blocks, 0)
+        }
         Answer::Control(k) => board_row::put_status(answer, on, k.status),
         Answer::Read(d) => board_row::put(answer, 0, 0, on, 3, d.blocks, 0, 0, 0),
         Answer::Refused(f) => board_row::put(answer, f.ah, f.al, on, 4, f.status, 0, 0, 0),

@@ -3,7 +3,8 @@
 --   FullOrPlanned    the plan is a full store's refusal, and then no outcome is legal, or a start and a count
 --   full-or-planned  one of the two, where checks 1 to 6 pass
 --   answer-full, answer-back    the answer, of each
---   answer-plan, answer-read, answer-bytes    an accepted write was planned, its revision was read back, and its bytes are an outcome's
+--   answer-plan, answer-read    an accepted write was planned, and its revision was read back
+--   answer-blocks, answer-bytes    its emptied blocks and its bytes are an outcome's
 --   full-none, none-full        the answer is a full store's exactly where no outcome is legal
 --   accepts-back, back-accepts  else it accepts exactly if the revision is read back
 use Prim.Native.Nat.{ℕ, _+_, _≤_}
@@ -28,6 +29,7 @@ use Rattle.write_marks.specs.Against.{bothMarks}
 use Rattle.write_placement.specs.Choose.{choose}
 use Rattle.write_outcome.specs.Legal.{Legal}
 use Rattle.write_outcome.specs.OutcomeBytes.{outcomeBytes}
+use Rattle.write_outcome.specs.EmptiedBlocks.{emptiedBlocks}
 use Rattle.call_answers.specs.Codes.{SUCCESS, STORAGE-FULL, SECURITY-FAILURE, none, sharing-needed, no-run}
 use Rattle.call_answers.specs.Answers.{refusal, ahOf}
 use Rattle.call_answers.specs.declared.answer.Written.{Written as WrittenNumbers}
@@ -48,23 +50,30 @@ pub data FullOrPlanned (old : List ℕ) (list : ProcessorList) (cand : List ℕ)
   full : (al : ℕ) → writePlan old list cand ≡ Refuse STORAGE-FULL al → NoLegal old list cand → FullOrPlanned old list cand
   planned : (start emptied : ℕ) → writePlan old list cand ≡ Run start emptied → FullOrPlanned old list cand
 
--- an answer with a start and a count: the plan is that run, and check 9 passed
-answered-run : (back new : ℕ) (p : Plan) (a : WrittenNumbers) → answered back new p ≡ Written a → (p ≡ Run (a .start) (a .emptied)) × (eqb back new ≡ true)
-unfolding answered unless
-answered-run back new (Run start emptied) a e = go (eqb back new) refl e
-  where
-    go : (t : Bool) → eqb back new ≡ t → unless t (refusal SECURITY-FAILURE none) (written start emptied) ≡ Written a
-        → (Run start emptied ≡ Run (a .start) (a .emptied)) × (eqb back new ≡ true)
-    go true q f =
-        let g : record { ah = SUCCESS; al = none; carry = false; start = start; emptied = emptied } ≡ a = cc in
-        (ap (λ (x : WrittenNumbers). Run (x .start) (x .emptied)) g, q)
-    go false q f = absurd (impossible (cc))
-answered-run back new (Refuse ah al) a e = absurd (impossible (cc))
+-- the answer's numbers, the emptied blocks by their definition
+abbrev numbers : List ℕ → List ℕ → ℕ → ℕ → WrittenNumbers
+numbers old cand start emptied =
+    record { ah = SUCCESS; al = none; carry = false; start = start; emptied = emptied; «emptied_blocks» = emptiedBlocks old (emptiedAt old cand start) }
 
-back-not-full : (t : Bool) (start emptied : ℕ) → ahOf (unless t (refusal SECURITY-FAILURE none) (written start emptied)) ≡ STORAGE-FULL → ⊥
+-- an answer with a start and a count: the plan is that run, check 9 passed, and the emptied blocks are those of that start
+answered-run : (old cand : List ℕ) (back : ℕ) (p : Plan) (a : WrittenNumbers) → answered old cand back p ≡ Written a
+    → (p ≡ Run (a .start) (a .emptied)) × (eqb back (revision cand) ≡ true) × (a .«emptied_blocks» ≡ emptiedBlocks old (emptiedAt old cand (a .start)))
+unfolding answered unless
+answered-run old cand back (Run start emptied) a e = go (eqb back (revision cand)) refl e
+  where
+    go : (t : Bool) → eqb back (revision cand) ≡ t → unless t (refusal SECURITY-FAILURE none) (Written (numbers old cand start emptied)) ≡ Written a
+        → (Run start emptied ≡ Run (a .start) (a .emptied)) × (eqb back (revision cand) ≡ true)
+        × (a .«emptied_blocks» ≡ emptiedBlocks old (emptiedAt old cand (a .start)))
+    go true q f =
+        let g : numbers old cand start emptied ≡ a = cc in
+        (ap (λ (x : WrittenNumbers). Run (x .start) (x .emptied)) g, q, rw (← g))
+    go false q f = absurd (impossible (cc))
+answered-run old cand back (Refuse ah al) a e = absurd (impossible (cc))
+
+back-not-full : (t : Bool) (start emptied blocks : ℕ) → ahOf (unless t (refusal SECURITY-FAILURE none) (written start emptied blocks)) ≡ STORAGE-FULL → ⊥
 unfolding unless
-back-not-full true start emptied e = omega arith
-back-not-full false start emptied e = omega arith
+back-not-full true start emptied blocks e = omega arith
+back-not-full false start emptied blocks e = omega arith
 
 module _ (old : List ℕ) (list : ProcessorList) (cand : List ℕ) where
   abbrev h : StoredUpdates
@@ -76,18 +85,22 @@ module _ (old : List ℕ) (list : ProcessorList) (cand : List ℕ) where
     answer-full al e = rw e
 
     pub answer-back : (start emptied : ℕ) → writePlan old list cand ≡ Run start emptied
-        → writeAnswer old list cand back ≡ unless (eqb back (revision cand)) (refusal SECURITY-FAILURE none) (written start emptied)
+        → writeAnswer old list cand back ≡ unless (eqb back (revision cand)) (refusal SECURITY-FAILURE none) (Written (numbers old cand start emptied))
     unfolding writeAnswer answered
     answer-back start emptied e = rw e
 
     module _ (a : WrittenNumbers) (e : writeAnswer old list cand back ≡ Written a) where
       pub answer-plan : writePlan old list cand ≡ Run (a .start) (a .emptied)
       unfolding writeAnswer
-      answer-plan = answered-run back (revision cand) (writePlan old list cand) a e .0
+      answer-plan = answered-run old cand back (writePlan old list cand) a e .0
 
       pub answer-read : eqb back (revision cand) ≡ true
       unfolding writeAnswer
-      answer-read = answered-run back (revision cand) (writePlan old list cand) a e .1
+      answer-read = answered-run old cand back (writePlan old list cand) a e .1
+
+      pub answer-blocks : a .«emptied_blocks» ≡ emptiedBlocks old (emptiedAt old cand (a .start))
+      unfolding writeAnswer
+      answer-blocks = answered-run old cand back (writePlan old list cand) a e .2
 
       pub answer-bytes : writeBytes old list cand back ≡ outcomeBytes old (totalSize cand) cand (a .start) (emptiedAt old cand (a .start))
       unfolding writeBytes bytesAfter unless
@@ -124,7 +137,7 @@ module _ (old : List ℕ) (list : ProcessorList) (cand : List ℕ) where
         where
           go : FullOrPlanned old list cand → NoLegal old list cand
           go (full al q none) = none
-          go (planned start emptied q) = absurd (back-not-full (eqb back (revision cand)) start emptied (rw (answer-back back start emptied q) at e))
+          go (planned start emptied q) = absurd (back-not-full (eqb back (revision cand)) start emptied _ (rw (answer-back back start emptied q) at e))
 
       pub none-full : NoLegal old list cand → ahOf (writeAnswer old list cand back) ≡ STORAGE-FULL
       none-full none = go full-or-planned
@@ -149,4 +162,4 @@ module _ (old : List ℕ) (list : ProcessorList) (cand : List ℕ) where
         unfolding unless
         back-accepts q =
             let w = legal-plan in
-            (record { ah = SUCCESS; al = none; carry = false; start = w .0; emptied = w .1 }, answer-back back (w .0) (w .1) (w .2) ∙ rw (eq-eqb back (revision cand) q))
+            (numbers old cand (w .0) (w .1), answer-back back (w .0) (w .1) (w .2) ∙ rw (eq-eqb back (revision cand) q))

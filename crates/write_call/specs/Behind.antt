@@ -36,7 +36,7 @@ use Rattle.write_plan.specs.CandidateMarks.{updateAt, sharesEntry, neededEntry,
 use Rattle.write_plan.specs.PlanLaws.{placed-same}
 use Rattle.write_plan.specs.declared.Plan.{Plan}
 use Rattle.write_plan.specs.declared.Plan.the-variants.{Run, Refuse}
-use Rattle.write_call.specs.Write.{goodPlan, judgedPlan, writePlan, writeAnswer, emptiedAt, bytesAfter, writeBytes}
+use Rattle.write_call.specs.Write.{goodPlan, judgedPlan, writePlan, emptiedAt, answered, writeAnswer, bytesAfter, writeBytes}
 use Rattle.write_call.specs.Planned.{plan-run}
 
 -- the candidate's bytes in the run
@@ -117,12 +117,14 @@ module _ (old : List ℕ) (list : ProcessorList) (cand other : List ℕ) (same :
     unfolding emptiedAt
     emptied-same start b = rw (shares-same (fromBlock old b), total-behind cand other same)
 
+    set-same : (start : ℕ) → emptiedAt old cand start ≡ emptiedAt old other start
+    set-same start = fun-ext (emptied-same start)
+
     pub behind-outcome : (start : ℕ)
         → outcomeBytes old (totalSize cand) cand start (emptiedAt old cand start)
         ≡ outcomeBytes old (totalSize other) other start (emptiedAt old other start)
     behind-outcome start =
-        let e : emptiedAt old cand start ≡ emptiedAt old other start = fun-ext (emptied-same start) in
-        rw (← total-behind cand other same, e)
+        rw (← total-behind cand other same, set-same start)
         (outcome-same old (totalSize cand) cand other start (emptiedAt old other start)
         (same-less cand other (max 48 (totalSize cand)) (totalSize cand) same (omega arith)))
 
@@ -138,20 +140,19 @@ module _ (old : List ℕ) (list : ProcessorList) (cand other : List ℕ) (same :
     behind-plan = rw (← verdict-behind cand other same lent long some enough, judged-behind (verdict cand) refl)
 
     module _ (back : ℕ) where
-      behind-answer : writeAnswer old list cand back ≡ writeAnswer old list other back
-      unfolding writeAnswer
-      behind-answer = rw (revision-same, behind-plan)
-
-      behind-bytes : writeBytes old list cand back ≡ writeBytes old list other back
-      unfolding writeBytes bytesAfter
-      behind-bytes = rw (← behind-plan) (go (writePlan old list cand) refl)
-        where
-          go : (p : Plan) → writePlan old list cand ≡ p → bytesAfter old cand back p ≡ bytesAfter old other back p
-          go (Run start emptied) e =
-              let w = plan-run old list cand start emptied e in
-              rw (revision-same, behind-outcome (totalSize cand) (w .data) (w .entries) (blocksOf (totalSize cand)) (w .good) start)
-          go (Refuse ah al) e = refl
+      -- a plan of the one is a plan of the other
+      behind-planned : (p : Plan) → writePlan old list cand ≡ p
+          → (answered old cand back p ≡ answered old other back p) × (bytesAfter old cand back p ≡ bytesAfter old other back p)
+      unfolding answered bytesAfter
+      behind-planned (Run start emptied) e =
+          let w = plan-run old list cand start emptied e in
+          let k = blocksOf (totalSize cand) in (
+            rw (revision-same, set-same (totalSize cand) (w .data) (w .entries) k (w .good) start),
+            rw (revision-same, behind-outcome (totalSize cand) (w .data) (w .entries) k (w .good) start),
+          )
+      behind-planned (Refuse ah al) e = (refl, refl)
 
       pub behind-ignored : (writeAnswer old list cand back ≡ writeAnswer old list other back)
           × (writeBytes old list cand back ≡ writeBytes old list other back)
-      behind-ignored = (behind-answer, behind-bytes)
+      unfolding writeAnswer writeBytes
+      behind-ignored = rw (← behind-plan) (behind-planned (writePlan old list cand) refl)

@@ -14,6 +14,7 @@ use mathlib.Core.Logic.{_↔_}
 use lib.ListN.{getD}
 use lib.Dec.{eqb}
 use Rattle.laws.specs.Below.{allBelow}
+use Rattle.laws.specs.Bits.{bit}
 use Rattle.laws.specs.Count.{countBelow}
 use Rattle.laws.specs.Same.{Same}
 use Rattle.update_header.specs.Fields.{revision, totalSize}
@@ -21,7 +22,7 @@ use Rattle.update_verdict.specs.Verdict.{verdict}
 use Rattle.update_verdict.specs.declared.Verdict.the-variants.{Good}
 use Rattle.store_blocks.specs.Blocks.{fromBlock, blockCount}
 use Rattle.store_directory.specs.Scan.{slotAt, sizeAt, first, storeOk}
-use Rattle.store_directory.specs.Valid.{ValidStore}
+use Rattle.store_directory.specs.Valid.{Owned, ValidStore}
 use Rattle.store_blocks.specs.declared.slot.Slot.the-variants.{Update}
 use Rattle.processor_list.specs.Processors.{ProcessorList, listOk, coversOne, Needed}
 use Rattle.write_outcome.specs.Legal.{Legal, emptiedCount}
@@ -51,7 +52,7 @@ standsAt old new b = first new b && allBelow (sizeAt old b * 2048) (sameByte old
 unfoldable pub goneAt : List ℕ → List ℕ → ℕ → Bool
 goneAt old new b = first old b && not (standsAt old new b)
 
-pub record Accepted (old : List ℕ) (list : ProcessorList) (cand : List ℕ) (start emptied : ℕ) (new : List ℕ) : Type 0 where
+pub record Accepted (old : List ℕ) (list : ProcessorList) (cand : List ℕ) (start emptied blocks : ℕ) (new : List ℕ) : Type 0 where
   -- the store holds exactly the bytes of a legal outcome with the answered start and emptied count
   pub set : ℕ → Bool
   pub legal : Legal old list cand (totalSize cand) start set
@@ -70,6 +71,8 @@ pub record Accepted (old : List ℕ) (list : ProcessorList) (cand : List ℕ) (s
   pub valid : ValidStore new
   -- the emptied count is the number of updates stored before that no longer stand at their place
   pub gone : emptied ≡ countBelow (blockCount old) (goneAt old new)
+  -- bit c of the emptied blocks is set exactly if block c belonged to a stored update that no longer stands at its place
+  pub emptied-blocks : (c : ℕ) → (bit blocks c ≡ true) ↔ ((b : ℕ) × Owned old (first old) b c × (goneAt old new b ≡ true))
 
 pub record Demand3 (old : List ℕ) (list : ProcessorList) (cand : List ℕ) (back : ℕ) (answer : Answer) (new : List ℕ) : Type 0 where
   -- STORAGE_FULL exactly when no legal outcome exists
@@ -77,4 +80,4 @@ pub record Demand3 (old : List ℕ) (list : ProcessorList) (cand : List ℕ) (ba
   -- otherwise it accepts exactly when the processor reads back the candidate's revision
   pub accepts : (start : ℕ) (e : ℕ → Bool) → Legal old list cand (totalSize cand) start e
       → ((a : WrittenNumbers) × (answer ≡ Written a)) ↔ (back ≡ revision cand)
-  pub accepted : (a : WrittenNumbers) → answer ≡ Written a → Accepted old list cand (a .start) (a .emptied) new
+  pub accepted : (a : WrittenNumbers) → answer ≡ Written a → Accepted old list cand (a .start) (a .emptied) (a .«emptied_blocks») new

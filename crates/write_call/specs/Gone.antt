@@ -3,17 +3,20 @@
 --   kept-stands     a kept update still stands
 --   emptied-gone    an emptied one doesn't, not even where the candidate begins at its first block
 --   gone-count      as many are gone as the outcome empties
+--   gone-blocks     the emptied blocks are those of the updates that are gone
 use Prim.Native.Nat.{ℕ, _*_, _<_, _≤_}
 use mathlib.Core.Path.{_≡_, refl, sym, ap, _∙_}
 use mathlib.Core.Bool.{Bool, true, false, not, _&&_, true≢false}
 use mathlib.Core.List.{List}
+use mathlib.Core.Logic.{_↔_}
 use native.Mathlib.Omega.{arith}
 use lib.ListN.{length, getD, length-drop}
 use lib.Seq.{getD-drop}
 use lib.Dec.{eqb}
 use borrow.Author.Tests.{eqb-true, eq-eqb, le-leb}
-use Rattle.laws.specs.Bools.{and-parts, and-made, no-true}
+use Rattle.laws.specs.Bools.{and-parts, and-made, no-true, no-false}
 use Rattle.laws.specs.Below.{allBelow, all-at, all-true, any-at, any-stop}
+use Rattle.laws.specs.Bits.{bit}
 use Rattle.laws.specs.Count.{countBelow, count-cong}
 use Rattle.laws.specs.Same.{Same, same-less}
 use Rattle.update_header.specs.Fields.{revision}
@@ -30,16 +33,19 @@ use Rattle.store_blocks.specs.Slot.{slotOf}
 use Rattle.store_directory.specs.Scan.{slotAt, sizeAt, first, storeOk, directory}
 use Rattle.store_directory.specs.SlotLaws.{Slotted, slotted, slot-inside, update-alike, ends-inside}
 use Rattle.store_directory.specs.LayoutLaws.{first-parts}
+use Rattle.store_directory.specs.Valid.{Owned}
 use Rattle.store_directory.specs.ValidLaws.{store-valid}
 use Rattle.store_directory.specs.DirectoryLaws.{listing}
 use Rattle.store_blocks.specs.declared.slot.Slot.the-variants.{Update}
 use Rattle.processor_list.specs.Processors.{ProcessorList, coversListed, coversOne}
 use Rattle.write_outcome.specs.Legal.{Legal, storedIn, emptiedCount}
 use Rattle.write_outcome.specs.OutcomeBytes.{outcomeBytes}
+use Rattle.write_outcome.specs.EmptiedBlocks.{emptiedBlocks}
 use Rattle.write_outcome.specs.After.{kept, after, After}
 use Rattle.write_outcome.specs.AfterLaws.{outcome-after}
 use Rattle.write_outcome.specs.KeptLaws.{kept-made}
 use Rattle.write_plan.specs.CandidateMarks.{sharesEntry, outdates, outdated}
+use Rattle.write_call.specs.AnsweredBlocks.{owned-inside, blocks-bit}
 use Rattle.write_call.specs.Demand.{sameByte, standsAt, goneAt}
 
 -- bytes v that agree with an update u of j blocks, and with the candidate
@@ -132,3 +138,20 @@ module _ (old : List ℕ) (list : ProcessorList) (cand : List ℕ) (t d n k star
       go b l true f true h = rw (emptied-gone b l f present newer h)
       go b l true f false h = rw (kept-stands b l f h)
       go b l false f y h = refl
+
+  pub gone-blocks : coversOne list cand ≡ true → outdated old cand ≡ false → (c : ℕ)
+      → (bit (emptiedBlocks old e) c ≡ true) ↔ ((b : ℕ) × Owned old (first old) b c × (goneAt old new b ≡ true))
+  unfolding goneAt
+  gone-blocks present newer c = (
+    λ h.
+        let w = blocks-bit old ok e c .0 h in
+        let o = w .2 in
+        let l = owned-inside old ok (w .0) c o in
+        (w .0, o, and-made (o .at) (rw (emptied-gone (w .0) (omega (arith, o .from)) (o .at) present newer (w .1)))),
+    λ w.
+        let o = w .1 in
+        let l = owned-inside old ok (w .0) c o in
+        let x = and-parts (first old (w .0)) (not (standsAt old new (w .0))) (w .2) in
+        let y = no-false (e (w .0)) (λ k. true≢false (sym (x .1) ∙ rw (kept-stands (w .0) (omega (arith, o .from)) (o .at) k))) in
+        blocks-bit old ok e c .1 (w .0, y, o),
+  )

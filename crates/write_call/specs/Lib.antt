@@ -6,6 +6,7 @@ pub mod CandidateSizeLaws
 pub mod PlanCases
 pub mod Planned
 pub mod Storing
+pub mod AnsweredBlocks
 pub mod Join
 pub mod Counts
 pub mod Chosen

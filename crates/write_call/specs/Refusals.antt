@@ -23,6 +23,7 @@ use Rattle.processor_list.specs.Processors.{ProcessorList, listOk, coversOne}
 use Rattle.write_marks.specs.StoredUpdates.{StoredUpdates}
 use Rattle.write_marks.specs.Against.{bothMarks}
 use Rattle.write_placement.specs.Choose.{choose}
+use Rattle.write_outcome.specs.EmptiedBlocks.{emptiedBlocks}
 use Rattle.call_answers.specs.Codes.{SUCCESS, READ-FAILURE, STORAGE-FULL, CPU-NOT-PRESENT, SECURITY-FAILURE, INVALID-REVISION, none, bad-store, bad-processors, sharing-needed}
 use Rattle.call_answers.specs.Answers.{refusal, Coded}
 use Rattle.call_answers.specs.declared.answer.Written.{Written as WrittenNumbers}
@@ -32,7 +33,7 @@ use Rattle.write_plan.specs.CandidateMarks.{storedUpdates, outdated}
 use Rattle.write_plan.specs.Plan.{placed}
 use Rattle.write_plan.specs.declared.Plan.{Plan}
 use Rattle.write_plan.specs.declared.Plan.the-variants.{Run, Refuse}
-use Rattle.write_call.specs.Write.{goodPlan, judgedPlan, writePlan, written, answered, writeAnswer, bytesAfter, writeBytes}
+use Rattle.write_call.specs.Write.{goodPlan, judgedPlan, writePlan, emptiedAt, written, answered, writeAnswer, bytesAfter, writeBytes}
 
 -- a plan refuses with a code that is not SUCCESS
 unfoldable coded : Plan → Bool
@@ -67,40 +68,40 @@ plan-coded old list cand =
     (judged-coded old list cand (verdict cand)))
 
 -- of the answer of a plan
-answered-coded : (back new : ℕ) (p : Plan) → coded p ≡ true → Coded (answered back new p)
-unfolding answered unless Coded coded
-answered-coded back new (Run start emptied) c = go (eqb back new)
-  where
-    go : (t : Bool) → Coded (unless t (refusal SECURITY-FAILURE none) (written start emptied))
-    go true = (refl, refl, refl)
-    go false = (refl, refl)
-answered-coded back new (Refuse ah al) c = (not-true _ c, refl)
-
 module _ (old cand : List ℕ) (back : ℕ) where
-  answered-refused : (p : Plan) (a : RefusedNumbers) → answered back (revision cand) p ≡ Refused a → bytesAfter old cand back p ≡ old
+  answered-coded : (p : Plan) → coded p ≡ true → Coded (answered old cand back p)
+  unfolding answered unless Coded coded
+  answered-coded (Run start emptied) c = go (eqb back (revision cand))
+    where
+      go : (t : Bool) → Coded (unless t (refusal SECURITY-FAILURE none) (written start emptied (emptiedBlocks old (emptiedAt old cand start))))
+      go true = (refl, refl, refl)
+      go false = (refl, refl)
+  answered-coded (Refuse ah al) c = (not-true _ c, refl)
+
+  answered-refused : (p : Plan) (a : RefusedNumbers) → answered old cand back p ≡ Refused a → bytesAfter old cand back p ≡ old
   unfolding answered bytesAfter unless
   answered-refused (Run start emptied) a e = go (eqb back (revision cand)) refl e
     where
-      go : (t : Bool) → eqb back (revision cand) ≡ t → unless t (refusal SECURITY-FAILURE none) (written start emptied) ≡ Refused a
+      go : (t : Bool) → eqb back (revision cand) ≡ t → unless t (refusal SECURITY-FAILURE none) (written start emptied (emptiedBlocks old (emptiedAt old cand start))) ≡ Refused a
           → bytesAfter old cand back (Run start emptied) ≡ old
       go true q f = absurd (impossible (cc))
       go false q f = rw q
   answered-refused (Refuse ah al) a e = refl
 
-  answered-kept : (p : Plan) → (bytesAfter old cand back p ≡ old) ⊎ ((a : WrittenNumbers) × (answered back (revision cand) p ≡ Written a))
+  answered-kept : (p : Plan) → (bytesAfter old cand back p ≡ old) ⊎ ((a : WrittenNumbers) × (answered old cand back p ≡ Written a))
   unfolding answered bytesAfter unless
   answered-kept (Run start emptied) = go (eqb back (revision cand)) refl
     where
       go : (t : Bool) → eqb back (revision cand) ≡ t
-          → (bytesAfter old cand back (Run start emptied) ≡ old) ⊎ ((a : WrittenNumbers) × (answered back (revision cand) (Run start emptied) ≡ Written a))
-      go true q = inr (record { ah = SUCCESS; al = none; carry = false; start = start; emptied = emptied }, rw q)
+          → (bytesAfter old cand back (Run start emptied) ≡ old) ⊎ ((a : WrittenNumbers) × (answered old cand back (Run start emptied) ≡ Written a))
+      go true q = inr (record { ah = SUCCESS; al = none; carry = false; start = start; emptied = emptied; «emptied_blocks» = emptiedBlocks old (emptiedAt old cand start) }, rw q)
       go false q = inl (rw q)
   answered-kept (Refuse ah al) = inl refl
 
 module _ (old : List ℕ) (list : ProcessorList) (cand : List ℕ) (back : ℕ) where
   pub write-coded : Coded (writeAnswer old list cand back)
   unfolding writeAnswer
-  write-coded = answered-coded back (revision cand) (writePlan old list cand) (plan-coded old list cand)
+  write-coded = answered-coded old cand back (writePlan old list cand) (plan-coded old list cand)
 
   pub write-refused : (a : RefusedNumbers) → writeAnswer old list cand back ≡ Refused a → writeBytes old list cand back ≡ old
   unfolding writeAnswer writeBytes

@@ -7,7 +7,6 @@ use Prim.Native.Nat.{ℕ}
 use mathlib.Core.Path.{_≡_, refl, ap, _∙_}
 use mathlib.Core.Bool.{true}
 use mathlib.Core.List.{List}
-use Rattle.update_header.specs.Fields.{revision}
 use Rattle.update_verdict.specs.Verdict.{verdict}
 use Rattle.update_verdict.specs.declared.Verdict.{Verdict}
 use Rattle.update_verdict.specs.declared.Verdict.the-variants.{Good, BadHeader, BadSum}
@@ -64,4 +63,4 @@ pub lists-same : (old : List ℕ) (list other : ProcessorList) (cand : List ℕ)
 unfolding writeAnswer writeBytes
 lists-same old list other cand back ok fine same =
     let e = plan-same old list other cand same ok fine in
-    (ap (answered back (revision cand)) e, ap (bytesAfter old cand back) e)
+    (ap (answered old cand back) e, ap (bytesAfter old cand back) e)

@@ -3,6 +3,8 @@
 --   Storable        it may, where the plan is a run
 --   planned-storable, storing     so it is after checks 1 to 8
 --   entries-for     the arrays list updates of the store
+--   entries-fit     none is empty, and all end within 32 blocks
+--   emptied-entry   an update that is emptied by its number is emptied by its first block
 --   stored-bytes    the bytes that are written are the outcome's
 --   run-inside, whole-lent    the run lies in the store; the candidate's bytes are lent, and at most 32,768
 use Prim.Native.Nat.{ℕ, _+_, _*_, _/_, _<_, _≤_}
@@ -27,6 +29,7 @@ use Rattle.store_directory.specs.Valid.{Owned}
 use Rattle.store_directory.specs.ValidLaws.{store-valid}
 use Rattle.store_directory.specs.DirectoryEntries.{startOf, sizeOf}
 use Rattle.store_directory.specs.DirectoryLaws.{Listing, listing}
+use Rattle.write_marks.specs.StoredUpdates.{Fitting}
 use Rattle.write_marks.specs.Against.{touchesByNumber, emptiedByNumber, within, fills}
 use Rattle.write_marks.specs.StoredMarks.{storedOf, marksOf}
 use Rattle.write_marks.specs.declared.Marked.{Marked}
@@ -89,8 +92,13 @@ module _ (old cand : List ℕ) (m : Marked) (start : ℕ) (y : Storing old cand 
   pub entries-for : Entries old (m .starts) (m .sizes) (m .count)
   entries-for = rw (y .shared .starts-are, y .sizes, y .shared .count-is) (entries-of old (directory old) entries long)
 
-  -- an update that is emptied by its number is emptied by its first block
-  emptied-entry : (k i : ℕ) → k ≡ blocksOf (totalSize cand) → i < m .count → emptiedByNumber (storedOf m) k start i ≡ emptiedAt old cand start (startOf (directory old) i)
+  pub entries-fit : Fitting 32 (storedOf m)
+  unfolding storedOf
+  entries-fit =
+      let few = store-valid old (y .ok) .few in
+      rw (y .shared .starts-are, y .sizes, y .shared .count-is) (record { some = entries .some; inside = λ i l. omega (arith, entries .ends i l) })
+
+  pub emptied-entry : (k i : ℕ) → k ≡ blocksOf (totalSize cand) → i < m .count → emptiedByNumber (storedOf m) k start i ≡ emptiedAt old cand start (startOf (directory old) i)
   unfolding emptiedByNumber touchesByNumber storedOf emptiedAt touchedAt sharesEntry
   emptied-entry k i e l =
       let n : i < directory old .count = rw (y .shared .count-is) at l in

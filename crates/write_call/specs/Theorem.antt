@@ -10,6 +10,7 @@ use Rattle.update_header.specs.Fields.{totalSize}
 use Rattle.update_sizes.specs.Sizes.{blocksOf}
 use Rattle.store_directory.specs.ValidLaws.{valid-law}
 use Rattle.write_outcome.specs.OutcomeBytes.{outcomeBytes}
+use Rattle.write_outcome.specs.EmptiedBlocks.{emptiedBlocks}
 use Rattle.write_outcome.specs.After.{after}
 use Rattle.write_outcome.specs.AfterLaws.{outcome-after}
 use Rattle.write_outcome.specs.KeptLaws.{kept-made}
@@ -18,11 +19,11 @@ use Rattle.write_call.specs.Write.{emptiedAt, writeAnswer, writeBytes}
 use Rattle.write_call.specs.Demand.{Passes, Accepted, Demand3}
 use Rattle.write_call.specs.Planned.{Planned, plan-run}
 use Rattle.write_call.specs.Chosen.{planned-best}
-use Rattle.write_call.specs.Gone.{gone-count}
-use Rattle.write_call.specs.Answered.{answer-plan, answer-bytes, full-none, none-full, accepts-back, back-accepts}
+use Rattle.write_call.specs.Gone.{gone-count, gone-blocks}
+use Rattle.write_call.specs.Answered.{answer-plan, answer-blocks, answer-bytes, full-none, none-full, accepts-back, back-accepts}
 
 pub planned-accepted : (old : List ℕ) (list : ProcessorList) (cand : List ℕ) (start emptied : ℕ) → Planned old list cand start emptied
-    → Accepted old list cand start emptied (outcomeBytes old (totalSize cand) cand start (emptiedAt old cand start))
+    → Accepted old list cand start emptied (emptiedBlocks old (emptiedAt old cand start)) (outcomeBytes old (totalSize cand) cand start (emptiedAt old cand start))
 unfolding after
 planned-accepted old list cand start emptied plan =
     let set = emptiedAt old cand start in
@@ -43,6 +44,8 @@ planned-accepted old list cand start emptied plan =
       valid = valid-law new .0 (left .ok);
       gone = best .counts
           ∙ gone-count old list cand t (plan .data) (plan .entries) k start set (plan .store) (plan .good) (best .legal) (plan .present) (plan .newer);
+      emptied-blocks =
+          gone-blocks old list cand t (plan .data) (plan .entries) k start set (plan .store) (plan .good) (best .legal) (plan .present) (plan .newer);
     }
 
 pub demand3 : (old : List ℕ) (list : ProcessorList) (cand : List ℕ) (back : ℕ) → Passes old list cand
@@ -54,7 +57,7 @@ demand3 old list cand back pass = record {
     back-accepts old list cand pass back start e legal,
   );
   accepted = λ a q.
-      rw (answer-bytes old list cand back a q)
+      rw (answer-bytes old list cand back a q, answer-blocks old list cand back a q)
       (planned-accepted old list cand (a .start) (a .emptied) (plan-run old list cand (a .start) (a .emptied) (answer-plan old list cand back a q)));
 }
 

@@ -2,11 +2,11 @@
 --   goodPlan        checks 5 to 8 of a candidate that passes checks 2 to 4
 --   judgedPlan      checks 2 to 8
 --   writePlan       checks 1 to 8: a run, or the codes of the check that refuses
---   written         the answer with a start block and an emptied count
---   answered        check 9, and the answer of a plan
---   writeAnswer     all of them
 --   touchedAt       the run from `start` touches the update at block b
 --   emptiedAt       the update at block b is emptied: it shares, wherever it lies, or the run touches it
+--   written         the answer with a start block, an emptied count and the emptied blocks
+--   answered        check 9, and the answer of a plan
+--   writeAnswer     all of them
 --   bytesAfter      the store after a plan and check 9
 --   writeBytes      the store afterwards: the outcome's bytes, or the old ones on a refusal
 use Prim.Native.Nat.{ℕ, _+_}
@@ -24,6 +24,7 @@ use Rattle.store_blocks.specs.Blocks.{fromBlock, blockCount}
 use Rattle.store_directory.specs.Scan.{sizeAt, storeOk}
 use Rattle.processor_list.specs.Processors.{ProcessorList, listOk, coversOne}
 use Rattle.write_outcome.specs.OutcomeBytes.{outcomeBytes}
+use Rattle.write_outcome.specs.EmptiedBlocks.{emptiedBlocks}
 use Rattle.call_answers.specs.Codes.{SUCCESS, READ-FAILURE, CPU-NOT-PRESENT, INVALID-REVISION, SECURITY-FAILURE, none, bad-store, bad-processors}
 use Rattle.call_answers.specs.Answers.{refusal}
 use Rattle.call_answers.specs.declared.answer.Answer.{Answer}
@@ -54,23 +55,25 @@ writePlan old list cand =
     (unless (listOk list) (Refuse READ-FAILURE bad-processors)
     (judgedPlan old list cand (verdict cand)))
 
-abbrev pub written : ℕ → ℕ → Answer
-written start emptied = Written (record { ah = SUCCESS; al = none; carry = false; start = start; emptied = emptied })
-
--- check 9: the revision that the processor read back is the candidate's
-unfoldable pub answered : ℕ → ℕ → Plan → Answer
-answered back revision (Run start emptied) = unless (eqb back revision) (refusal SECURITY-FAILURE none) (written start emptied)
-answered back revision (Refuse ah al) = refusal ah al
-
-unfoldable pub writeAnswer : List ℕ → ProcessorList → List ℕ → ℕ → Answer
-writeAnswer old list cand back = answered back (revision cand) (writePlan old list cand)
-
 -- the run of k blocks from the start touches the update at block b
 unfoldable pub touchedAt : List ℕ → ℕ → ℕ → ℕ → Bool
 touchedAt old k start b = ltb start (b + sizeAt old b) && ltb b (start + k)
 
 unfoldable pub emptiedAt : List ℕ → List ℕ → ℕ → ℕ → Bool
 emptiedAt old cand start b = shares (fromBlock old b) cand || touchedAt old (blocksOf (totalSize cand)) start b
+
+abbrev pub written : ℕ → ℕ → ℕ → Answer
+written start emptied blocks =
+    Written (record { ah = SUCCESS; al = none; carry = false; start = start; emptied = emptied; «emptied_blocks» = blocks })
+
+-- check 9: the revision that the processor read back is the candidate's
+unfoldable pub answered : List ℕ → List ℕ → ℕ → Plan → Answer
+answered old cand back (Run start emptied) =
+    unless (eqb back (revision cand)) (refusal SECURITY-FAILURE none) (written start emptied (emptiedBlocks old (emptiedAt old cand start)))
+answered old cand back (Refuse ah al) = refusal ah al
+
+unfoldable pub writeAnswer : List ℕ → ProcessorList → List ℕ → ℕ → Answer
+writeAnswer old list cand back = answered old cand back (writePlan old list cand)
 
 unfoldable pub bytesAfter : List ℕ → List ℕ → ℕ → Plan → List ℕ
 bytesAfter old cand back (Run start emptied) =

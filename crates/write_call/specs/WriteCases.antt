@@ -11,6 +11,7 @@ use Rattle.processor_list.specs.Processors.{ProcessorList}
 use Rattle.laws.specs.Unless.{unless}
 use Rattle.update_header.specs.Fields.{revision, totalSize}
 use Rattle.write_outcome.specs.OutcomeBytes.{outcomeBytes}
+use Rattle.write_outcome.specs.EmptiedBlocks.{emptiedBlocks}
 use Rattle.call_answers.specs.Codes.{SECURITY-FAILURE, none}
 use Rattle.call_answers.specs.Answers.{refusal}
 use Rattle.call_answers.specs.declared.answer.Answer.{Answer}
@@ -23,11 +24,11 @@ use Rattle.write_call.specs.Theorem.{demanded}
 -- p is the plan, v the candidate's revision that a call read
 module _ (old cand : List ℕ) (back : ℕ) (p : Plan) where
   module _ (start emptied v : ℕ) (h : p ≡ Run start emptied) (f : v ≡ revision cand) where
-    pub back-right : back ≡ v → written start emptied ≡ answered back (revision cand) p
+    pub back-right : (blocks : ℕ) → back ≡ v → blocks ≡ emptiedBlocks old (emptiedAt old cand start) → written start emptied blocks ≡ answered old cand back p
     unfolding answered unless
-    back-right q = rw (h, eq-eqb back (revision cand) (q ∙ f))
+    back-right blocks q g = rw (h, eq-eqb back (revision cand) (q ∙ f), g)
 
-    pub back-wrong : (z : Answer) → (back ≡ v → ⊥) → z ≡ refusal SECURITY-FAILURE none → z ≡ answered back (revision cand) p
+    pub back-wrong : (z : Answer) → (back ≡ v → ⊥) → z ≡ refusal SECURITY-FAILURE none → z ≡ answered old cand back p
     unfolding answered unless
     back-wrong z n q = rw (h, ne-eqb back (revision cand) (λ x. n (x ∙ sym f))) q
 
@@ -40,7 +41,7 @@ module _ (old cand : List ℕ) (back : ℕ) (p : Plan) where
     bytes-kept n = rw (h, ne-eqb back (revision cand) (λ x. n (x ∙ sym f)))
 
   module _ (ah al : ℕ) (h : p ≡ Refuse ah al) where
-    pub refuse-answer : (z : Answer) → z ≡ refusal ah al → z ≡ answered back (revision cand) p
+    pub refuse-answer : (z : Answer) → z ≡ refusal ah al → z ≡ answered old cand back p
     unfolding answered
     refuse-answer z q = rw h q
 
@@ -54,11 +55,11 @@ pub ruleset left = (bytes-written, bytes-kept, refuse-bytes)
 
 -- g is the plan by its definition
 module _ (old cand : List ℕ) (back : ℕ) (r : Answer) (new : List ℕ) (p g : Plan) (e : p ≡ g) where
-  pub planned-same : r ≡ answered back (revision cand) p → new ≡ bytesAfter old cand back p → (r ≡ answered back (revision cand) g) × (new ≡ bytesAfter old cand back g)
-  planned-same a b = (a ∙ ap (answered back (revision cand)) e, b ∙ ap (bytesAfter old cand back) e)
+  pub planned-same : r ≡ answered old cand back p → new ≡ bytesAfter old cand back p → (r ≡ answered old cand back g) × (new ≡ bytesAfter old cand back g)
+  planned-same a b = (a ∙ ap (answered old cand back) e, b ∙ ap (bytesAfter old cand back) e)
 
 pub absent-same : (old cand : List ℕ) (back : ℕ) (r : Answer) (ah al : ℕ) (g : Plan) → Refuse ah al ≡ g → r ≡ refusal ah al
-    → (r ≡ answered back (revision cand) g) × (old ≡ bytesAfter old cand back g)
+    → (r ≡ answered old cand back g) × (old ≡ bytesAfter old cand back g)
 unfolding answered bytesAfter
 absent-same old cand back r ah al g e h = planned-same old cand back r old (Refuse ah al) g e h refl
 
@@ -70,11 +71,11 @@ Meant old list cand back r new =
 
 module _ (old : List ℕ) (list : ProcessorList) (cand : List ℕ) (back : ℕ) (r : Answer) where
   -- p is the plan that a call made
-  pub meant : (new : List ℕ) (p : Plan) → p ≡ writePlan old list cand → r ≡ answered back (revision cand) p → new ≡ bytesAfter old cand back p
+  pub meant : (new : List ℕ) (p : Plan) → p ≡ writePlan old list cand → r ≡ answered old cand back p → new ≡ bytesAfter old cand back p
       → Meant old list cand back r new
   unfolding writeAnswer writeBytes
   meant new p q e b =
-      let f = e ∙ ap (answered back (revision cand)) q in
+      let f = e ∙ ap (answered old cand back) q in
       let g = b ∙ ap (bytesAfter old cand back) q in
       (f, (g, demanded old list cand back r new f g))
 

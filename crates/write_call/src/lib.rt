@@ -1,12 +1,13 @@
 // The write call, sub-function 1: its checks in their order, and the bytes.
 ghost use mathlib.Core.Path.{_≡_};
 ghost use mathlib.Core.Bool.{true};
-ghost use Rattle.update_header.specs.Fields.{revision, totalSize};
+ghost use Rattle.update_header.specs.Fields.{totalSize};
 ghost use Rattle.store_directory.specs.Scan.{directory};
 ghost use mathlib.Core.List.{[]};
 ghost use Rattle.write_marks.specs.StoredMarks.{marksOf};
 ghost use Rattle.processor_list.specs.Processors.{listOf, listOk};
 ghost use Rattle.write_outcome.specs.OutcomeBytes.{outcomeBytes};
+ghost use Rattle.write_outcome.specs.EmptiedBlocks.{emptiedBlocks};
 ghost use Rattle.write_call.specs.Write.{emptiedAt, goodPlan, writePlan, answered, writeAnswer, bytesAfter, writeBytes};
 ghost use Rattle.write_call.specs.Demand.{Passes, Demand3};
 ghost use Rattle.write_call.specs.Storing.{Storing, Storable};
@@ -31,7 +32,8 @@ pub struct Sizes {
     pub pairs: Pairs,
 }
 
-// Empties all sharing updates, wherever they lie, and all that the run touches, and puts the candidate of `t` bytes at the start.
+// Empties all sharing updates, wherever they lie, and all that the run touches, and puts the candidate of `t` bytes at the start. Answers
+// the emptied blocks.
 fn store_candidate<'a>(
     store: &mut [u8],
     starts: &'a [u8; MOST_BLOCKS],
@@ -41,13 +43,15 @@ fn store_candidate<'a>(
     start: u32,
     candidate: &[u8],
     t: u32,
-)
+) -> u32
     requires { ⌜ Storing (now store) (now candidate) (marksOf (now starts) (now sizes) (now shares) [] count) start ×
         (t ≡ totalSize (now candidate)) ⌝ }
-    ensures { λ _. ⌜ now (store .exit) ≡ outcomeBytes (now (store .entry)) (totalSize (now (candidate .entry)))
+    ensures answers { λ r. ⌜ r ≡ emptiedBlocks (now (store .entry)) (emptiedAt (now (store .entry)) (now (candidate .entry)) start) ⌝ }
+    ensures stores { λ r. ⌜ now (store .exit) ≡ outcomeBytes (now (store .entry)) (totalSize (now (candidate .entry)))
         (now (candidate .entry)) start (emptiedAt (now (store .entry)) (now (candidate .entry)) start) ⌝ }
 {
     let k = update_sizes::blocks_of(t);
+    let blocks = write_marks::emptied_blocks(starts, sizes, shares, count, k, start);
     let gone = write_marks::to_fill(starts, sizes, shares, count, k, start);
     bytes::write_bytes(
         store,
@@ -59,6 +63,7 @@ fn store_candidate<'a>(
         candidate,
         t as usize,
     );
+    blocks
 }
 
 // Check 9, and the bytes.
@@ -75,20 +80,30 @@ fn finish<'a>(
 ) -> Answer
     requires { ⌜ Storable (now store) (now candidate) (marksOf (now starts) (now sizes) (now shares) [] count) plan ×
         (t ≡ totalSize (now candidate)) ⌝ }
-    ensures answers { λ r. ⌜ r ≡ answered back (revision (now (candidate .entry))) plan ⌝ }
+    ensures answers { λ r. ⌜ r ≡ answered (now (store .entry)) (now (candidate .entry)) back plan ⌝ }
     ensures stores { λ r. ⌜ now (store .exit) ≡ bytesAfter (now (store .entry)) (now (candidate .entry)) back plan ⌝ }
 {
     match plan {
         Plan::Run { start, emptied } => {
             let revision = fields::revision(candidate);
             if back == revision {
-                store_candidate(store, starts, sizes, shares, count, start, candidate, t);
+                let emptied_blocks = store_candidate(
+                    store,
+                    starts,
+                    sizes,
+                    shares,
+                    count,
+                    start,
+                    candidate,
+                    t,
+                );
                 Answer::Written(Written {
                     ah: code::SUCCESS,
                     al: code::NONE,
                     carry: false,
                     start,
                     emptied,
+                    emptied_blocks,
                 })
             } else {
                 answer::refuse(code::SECURITY_FAILURE, code::NONE)
@@ -113,8 +128,8 @@ fn write_good(
     requires { ⌜ (let list = listOf (now signatures) (now platforms) in
         goodPlan (now store) list (now candidate) (sizes .blocks) ≡ writePlan (now store) list (now candidate)) ⌝ }
     ensures answers { λ r. ⌜ (let list = listOf (now (signatures .entry)) (now (platforms .entry)) in
-        r ≡ answered back (revision (now (candidate .entry))) (goodPlan (now (store .entry)) list (now (candidate .entry))
-        (sizes .blocks))) ⌝ }
+        let old = now (store .entry) in
+        r ≡ answered old (now (candidate .entry)) back (goodPlan old list (now (candidate .entry)) (sizes .blocks))) ⌝ }
     ensures stores { λ r. ⌜ (let list = listOf (now (signatures .entry)) (now (platforms .entry)) in
         let old = now (store .entry) in
         now (store .exit) ≡ bytesAfter old (now (candidate .entry)) back (goodPlan old list (now (candidate .entry)) (sizes .blocks))) ⌝ }
