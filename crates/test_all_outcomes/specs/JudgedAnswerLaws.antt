@@ -17,22 +17,29 @@ use Rattle.call_answers.specs.Codes.{STORAGE-FULL, sharing-needed, no-run}
 use Rattle.test_all_outcomes.specs.declared.layout.Layout.{Layout}
 use Rattle.test_all_outcomes.specs.declared.outcomes.Outcome.{Outcome}
 use Rattle.test_all_outcomes.specs.SmallLayouts.{bothMarks}
+use Rattle.test_all_outcomes.specs.SetBlocks.{setBlocks}
 use Rattle.test_all_outcomes.specs.JudgedAnswers.{writtenRight, fullAl, refusedRight, sameAt, sameFirst}
 
-module _ (o : Outcome) (start emptied : ℕ) where
-  pub written-none : o .found ≡ false → false ≡ writtenRight o start emptied
+module _ (l : Layout) (o : Outcome) (start emptied blocks : ℕ) where
+  pub written-none : o .found ≡ false → false ≡ writtenRight l o start emptied blocks
   unfolding writtenRight
   written-none h = rw h
 
-  pub written-elsewhere : (start ≡ o .start → ⊥) → false ≡ writtenRight o start emptied
+  pub written-elsewhere : (start ≡ o .start → ⊥) → false ≡ writtenRight l o start emptied blocks
   unfolding writtenRight
   written-elsewhere h = rw (ne-eqb start (o .start) h, and-false (o .found))
 
-  pub written-there : o .found ≡ true → start ≡ o .start → eqb emptied (o .emptied) ≡ writtenRight o start emptied
+  pub written-miscounted : (emptied ≡ o .emptied → ⊥) → false ≡ writtenRight l o start emptied blocks
   unfolding writtenRight
-  written-there h e = rw (h, eq-eqb start (o .start) e)
+  written-miscounted h = rw (ne-eqb emptied (o .emptied) h, and-false (o .found && eqb start (o .start)))
 
-pub ruleset writings = (written-none, written-elsewhere, written-there)
+  -- want is what a call answered
+  pub written-there : o .found ≡ true → start ≡ o .start → emptied ≡ o .emptied → (want : ℕ) → want ≡ setBlocks l (o .set)
+      → eqb blocks want ≡ writtenRight l o start emptied blocks
+  unfolding writtenRight
+  written-there h e f want g = rw (h, eq-eqb start (o .start) e, eq-eqb emptied (o .emptied) f, g)
+
+pub ruleset writings = (written-none, written-elsewhere, written-miscounted, written-there)
 
 -- r is what a call answered
 module _ (l : Layout) (r : Bool) (e : r ≡ bothMarks l) where

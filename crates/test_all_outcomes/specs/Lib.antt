@@ -3,6 +3,8 @@ pub mod SmallLayouts
 pub mod SmallLayoutLaws
 pub mod TriedOutcomes
 pub mod TriedOutcomeLaws
+pub mod SetBlocks
+pub mod SetBlockLaws
 pub mod LegalOutcome
 pub mod LegalOutcomeLaws
 pub mod BestOutcome

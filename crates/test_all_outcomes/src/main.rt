@@ -3,6 +3,7 @@
 mod layout;
 mod make;
 mod outcomes;
+mod set_blocks;
 mod tally;
 mod trial;
 

@@ -9,6 +9,7 @@ use crate::make;
 use crate::outcomes;
 use crate::outcomes::Outcome;
 use crate::outcomes::Set;
+use crate::set_blocks;
 use call_answers::answer;
 use call_answers::answer::Answer;
 use call_answers::code;
@@ -100,15 +101,19 @@ fn same(a: &[u8], b: &[u8], n: usize) -> bool
 }
 
 // Whether a write that was done is the best outcome.
-fn written_right(o: Outcome, start: u32, emptied: u32) -> bool
-    ensures { λ r. ⌜ r ≡ writtenRight o start emptied ⌝ }
+fn written_right(l: Layout, o: Outcome, start: u32, emptied: u32, blocks: u32) -> bool
+    ensures { λ r. ⌜ r ≡ writtenRight l o start emptied blocks ⌝ }
 {
     if o.found {
-        if start == o.start {
-            emptied == o.emptied
-        } else {
-            false
+        if start != o.start {
+            return false;
         }
+        if emptied != o.emptied {
+            return false;
+        }
+        let set = o.set;
+        let want = set_blocks::bits(l, set);
+        blocks == want
     } else {
         false
     }
@@ -148,7 +153,7 @@ fn judged(answer: Answer, l: Layout, o: Outcome) -> Seen
 {
     match answer {
         Answer::Written(w) => Seen {
-            same: written_right(o, w.start, w.emptied),
+            same: written_right(l, o, w.start, w.emptied, w.emptied_blocks),
             written: true,
             number: w.emptied,
         },

@@ -93,6 +93,7 @@ pub fn reply(label: &[u8], answer: Answer) {
         Answer::Written(a) => {
             test_output::number(b": written, start ", a.start);
             test_output::number(b", emptied ", a.emptied);
+            test_output::number(b", emptied blocks ", a.emptied_blocks);
         }
         Answer::Control(a) => test_output::number(b": control, status ", a.status),
         Answer::Read(a) => test_output::number(b": read, blocks ", a.blocks),

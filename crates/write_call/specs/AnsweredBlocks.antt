@@ -3,7 +3,7 @@
 --   blocks-bit       bit c is set exactly if block c belongs to a stored update of the set
 --   emptied-block    block c is one of an emptied update's, by number and by first block
 --   blocks-are       the bits that the marks give are the emptied blocks
-use Prim.Native.Nat.{ℕ, _+_, _^_, _<_, _≤_}
+use Prim.Native.Nat.{ℕ, _<_, _≤_}
 use mathlib.Core.Path.{_≡_, refl, sym, ap, _∙_}
 use mathlib.Core.Bool.{Bool, true, false, true≢false}
 use mathlib.Core.List.{List}
@@ -20,7 +20,7 @@ use Rattle.laws.specs.Span.{spans, spans-law}
 use Rattle.update_header.specs.Fields.{totalSize}
 use Rattle.update_sizes.specs.Sizes.{blocksOf}
 use Rattle.store_blocks.specs.Blocks.{blockCount}
-use Rattle.store_directory.specs.Scan.{sizeAt, first, storeOk, directory}
+use Rattle.store_directory.specs.Scan.{first, storeOk, directory}
 use Rattle.store_directory.specs.Valid.{Owned}
 use Rattle.store_directory.specs.ValidLaws.{store-valid}
 use Rattle.store_directory.specs.SlotLaws.{ends-inside}

@@ -4,4 +4,5 @@ use Rattle.test_all_outcomes.proofs.trial.written_right.Statement.{stat
 use Rattle.test_all_outcomes.proofs.trial.written_right.Tie as tie
 
 pub written-right-spec : {M : Type 1} → statement M
-written-right-spec = tie.close (tie.spec (λ c. search writings) (λ c. search writings) (λ c. search writings))
+written-right-spec =
+    tie.close (tie.spec (λ c. search writings) (λ c. search writings) (λ c κs. tt) (λ c. search writings) (λ c. search writings))
