@@ -1,7 +1,7 @@
 -- The blocks of the emptied updates as the bits of a number, gathered update by update.
 --   emptiedTo                 block c is one of an emptied update's among the first n
 --   span-number               the blocks of one update, out of 32 ones and two shifts
---   gather-none, gather-more, gather-same, gather-done    the loop that gathers them: its start, its two turns, its end
+--   gathering                 the loop that gathers them, as `search` takes it
 use Prim.Native.Nat.{ℕ, _+_, _*_, _-_, _%_, _/_, _^_, _≤_}
 use mathlib.Core.Path.{_≡_, refl, sym, _∙_}
 use mathlib.Core.Bool.{Bool, true, false, or-false}
@@ -43,3 +43,5 @@ module _ (h : StoredUpdates) (k s : ℕ) where
     pub gather-done : (n : ℕ) → n ≡ h .count → i ≤ n → n ≤ i → bits ≡ bitsBelow 32 (emptiedBlock h k s)
     unfolding emptiedTo emptiedBlock
     gather-done n q l m = let w : i ≡ h .count = omega arith in rw w at e
+
+pub ruleset gathering = (gather-none, gather-more, gather-same, gather-done)

@@ -10,7 +10,7 @@ use native.Mathlib.Numerals.{add-one-le}
 use Rattle.laws.specs.Bits.{bitsBelow}
 use Rattle.write_marks.specs.Against.{touchesByNumber, emptiedByNumber}
 use Rattle.write_marks.specs.StoredMarks.{storedOf, marksOf}
-use Rattle.write_marks.specs.EmptiedBits.{emptiedTo, gather-none, gather-more, gather-same, gather-done}
+use Rattle.write_marks.specs.EmptiedBits.{emptiedTo, gather-none, gathering}
 use Rattle.write_marks.proofs.emptied_blocks.Statement.{statement}
 use Rattle.write_marks.proofs.emptied_blocks.Tie as tie
 
@@ -34,20 +34,15 @@ block-bits-requires c κs =
 
 loop-again : tie.Need-loop-again Inv-loop μ-loop
 unfolding emptiedByNumber touchesByNumber storedOf
-loop-again c =
-    let t = c .before .before .before in
-    let l = t .before .before .before .before .before in
-    (add-one-le (l .loop-test .taken), gather-more _ _ _ _ _ (l .before .loop .inv .1) _ (t .before .is-emptied .ensures) (t .if1 .taken) _ (c .block-bits .ensures))
+loop-again c = (add-one-le (c .before .before .before .before .before .before .before .before .loop-test .taken), search gathering)
 
 loop-again-2 : tie.Need-loop-again-2 Inv-loop μ-loop
 unfolding emptiedByNumber touchesByNumber storedOf
-loop-again-2 c =
-    let l = c .before .before .before .before .before in
-    (add-one-le (l .loop-test .taken), gather-same _ _ _ _ _ (l .before .loop .inv .1) _ (c .before .is-emptied .ensures) (c .if1 .left))
+loop-again-2 c = (add-one-le (c .before .before .before .before .before .loop-test .taken), search gathering)
 
 returns : tie.Need-returns Inv-loop μ-loop
 unfolding storedOf
-returns c = let l = c .before .loop .inv in gather-done _ _ _ _ _ (l .1) _ refl (l .0) (c .loop-test .left)
+returns c = search gathering
 
 pub emptied-blocks-spec : {M : Type 1} → statement M
 emptied-blocks-spec =
