@@ -25,7 +25,7 @@ store-candidate-spec =
     (tie.spec
     (λ c κs. tt)
     (λ c κs. let y = c .before .before .before .pre .0 in (y .shared .few, entries-fit _ _ _ _ y))
-    (λ c κs. c .before .before .before .before .pre .0 .shared .few)
+    (λ c κs. omega (arith, c .before .before .before .before .pre .0 .shared .few))
     (λ c κs.
     let y = c .before .before .before .before .before .before .pre in
     (entries-for _ _ _ _ (y .0), (whole-lent _ _ _ _ (y .0) _ (y .1), run-inside _ _ _ _ (y .0) _ (y .1))))
