@@ -93,25 +93,25 @@ module _ (s : List ℕ) (b : ℕ) where
   unfolding indexedBytes readBytes
   read-own-bytes d = ap (copied s b d) (plan-own s (indexOf s) (same-self (indexOf s)) b (length d))
 
--- the order of the codes: d is the directory that was read, y the index that was made of it, t whether x is the same
+-- the order of the codes: d is the directory that was read, t whether x is the store's own index
 module _ (s : List ℕ) (x : Index) (b m : ℕ) (d : Directory) (e : d ≡ directory s) where
   pub indexed-bad : d .ok ≡ false → Refuse READ-FAILURE bad-store ≡ indexedPlan s x b m
   unfolding indexedPlan unless
   indexed-bad h = rw (← directory-ok s d e, h)
 
-  module _ (ok : d .ok ≡ true) (y : Index) (f : y ≡ indexOf s) (t : Bool) (g : t ≡ sameIndex x y) where
+  module _ (ok : d .ok ≡ true) (t : Bool) (g : t ≡ sameIndex x (indexOf s)) where
     pub indexed-foreign : t ≡ false → Refuse READ-FAILURE bad-store ≡ indexedPlan s x b m
     unfolding indexedPlan unless
-    indexed-foreign h = rw (← directory-ok s d e, ok, ← f, ← g, h)
+    indexed-foreign h = rw (← directory-ok s d e, ok, ← g, h)
 
     module _ (h : t ≡ true) where
       pub indexed-number : length s / 2048 ≤ b → Refuse UPDATE-NUM-INVALID none ≡ indexedPlan s x b m
       unfolding indexedPlan unless blockCount
-      indexed-number l = rw (← directory-ok s d e, ok, ← f, ← g, h, le-ltb b (length s / 2048) l)
+      indexed-number l = rw (← directory-ok s d e, ok, ← g, h, le-ltb b (length s / 2048) l)
 
       pub indexed-line : (z : ReadPlan) → b < length s / 2048 → z ≡ linePlan (lineOf x b .kind) (lineOf x b .size) m → z ≡ indexedPlan s x b m
       unfolding indexedPlan unless blockCount
-      indexed-line z l q = q ∙ rw (← directory-ok s d e, ok, ← f, ← g, h, lt-ltb b (length s / 2048) l)
+      indexed-line z l q = q ∙ rw (← directory-ok s d e, ok, ← g, h, lt-ltb b (length s / 2048) l)
 
 -- another index is refused
 pub foreign-plan : (s : List ℕ) (x : Index) (b m : ℕ) → sameIndex x (indexOf s) ≡ false → indexedPlan s x b m ≡ Refuse READ-FAILURE bad-store

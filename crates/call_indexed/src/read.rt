@@ -8,7 +8,7 @@ use call_reads::read;
 use call_reads::read::ReadPlan;
 use store_blocks::BLOCK;
 use store_index::Index;
-use store_index::same;
+use store_index::own;
 
 // By the line of the block, for a destination of `lent` bytes.
 fn line_plan(kind: u32, size: u32, lent: usize) -> ReadPlan
@@ -28,14 +28,14 @@ fn line_plan(kind: u32, size: u32, lent: usize) -> ReadPlan
     }
 }
 
-// The checks in their order. The store is read once, for its own index; then the given one, which is the same, decides.
+// The checks in their order. The store is read once; then its own index decides.
 fn indexed_plan(store: &[u8], x: Index, block: u32, lent: usize) -> ReadPlan
     ensures { λ r. ⌜ r ≡ indexedPlan (now (store .entry)) x block lent ⌝ }
 {
     let d = store_directory::read_store(store);
     let ok = d.ok;
     if ok {
-        if same::same_index(x, store_index::index_of(store, d)) {
+        if own::is_own(store, d, &x.kinds, &x.starts, &x.revisions, &x.sizes) {
             let b = block as usize;
             if b < store.len() / BLOCK {
                 line_plan(x.kinds[b], x.sizes[b], lent)

@@ -139,30 +139,26 @@ module _ (s : List ℕ) (x : Index) (signature platform b n : ℕ) (all : n ≡ 
       let q : b ≡ length s / 2048 = omega arith in
       rw (first-none (length s / 2048) (holdsIn s x signature platform) (rw q at none), le-ltb (length s / 2048) (length s / 2048) (omega arith))
 
--- y is the index that was made of the store, t whether x is the same
-pub indexed-same : (s : List ℕ) (x y : Index) (t : Bool) → y ≡ indexOf s → t ≡ sameIndex x y → t ≡ true → sameIndex x (indexOf s) ≡ true
-indexed-same s x y t f g h = rw (← f, ← g) h
-
--- the order: d is the directory that was read, y the index that was made of it, t whether x is the same, z the answer
+-- the order: d is the directory that was read, t whether x is the store's own index, z the answer
 module _ (loading : Bool) (s : List ℕ) (x : Index) (signature platform : ℕ) (d : Directory) (e : d ≡ directory s) where
   pub indexed-bad : d .ok ≡ false → Refused READ-FAILURE bad-store ≡ indexedChoice loading s x signature platform
   unfolding indexedChoice unless
   indexed-bad h = rw (← directory-ok s d e, h)
 
-  module _ (ok : d .ok ≡ true) (y : Index) (f : y ≡ indexOf s) (t : Bool) (g : t ≡ sameIndex x y) where
+  module _ (ok : d .ok ≡ true) (t : Bool) (g : t ≡ sameIndex x (indexOf s)) where
     pub indexed-foreign : t ≡ false → Refused READ-FAILURE bad-store ≡ indexedChoice loading s x signature platform
     unfolding indexedChoice unless
-    indexed-foreign h = rw (← directory-ok s d e, ok, ← f, ← g, h)
+    indexed-foreign h = rw (← directory-ok s d e, ok, ← g, h)
 
     module _ (h : t ≡ true) where
       pub indexed-platform : 7 < platform → Refused READ-FAILURE bad-processors ≡ indexedChoice loading s x signature platform
       unfolding indexedChoice unless
-      indexed-platform l = rw (← directory-ok s d e, ok, ← f, ← g, h, lt-leb platform 7 l)
+      indexed-platform l = rw (← directory-ok s d e, ok, ← g, h, lt-leb platform 7 l)
 
       pub indexed-off : platform ≤ 7 → loading ≡ false → Nothing ≡ indexedChoice loading s x signature platform
       unfolding indexedChoice unless
-      indexed-off l k = rw (← directory-ok s d e, ok, ← f, ← g, h, le-leb platform 7 l, k)
+      indexed-off l k = rw (← directory-ok s d e, ok, ← g, h, le-leb platform 7 l, k)
 
       pub indexed-on : (z : LoadChoice) → platform ≤ 7 → loading ≡ true → z ≡ foundIn s x signature platform → z ≡ indexedChoice loading s x signature platform
       unfolding indexedChoice unless
-      indexed-on z l k q = rw (← directory-ok s d e, ok, ← f, ← g, h, le-leb platform 7 l, k) q
+      indexed-on z l k q = rw (← directory-ok s d e, ok, ← g, h, le-leb platform 7 l, k) q

@@ -1,28 +1,38 @@
 // The load choice through an index.
 ghost use mathlib.Core.Path.{_≡_};
 ghost use mathlib.Core.Bool.{true};
-ghost use Prim.Native.Nat.{_/_};
-ghost use lib.ListN.{length};
 ghost use Rattle.store_directory.specs.Scan.{storeOk};
 ghost use Rattle.store_index.specs.Index.{indexOf};
+ghost use Rattle.store_index.specs.IndexLines.{columns};
 ghost use Rattle.store_index.specs.SameIndex.{sameIndex};
 ghost use Rattle.load_choice.specs.Load.{chosenData};
 ghost use Rattle.load_indexed.specs.IndexedLoad.{foundIn, indexedChoice};
 use call_answers::choice::LoadChoice;
 use call_answers::code;
 use store_blocks::BLOCK;
+use store_blocks::MOST_BLOCKS;
 use store_index::Index;
-use store_index::same;
+use store_index::own;
 
-// The stored update that covers the processor, by the store's own index.
-fn find_in(store: &[u8], x: Index, signature: u32, platform: u32) -> LoadChoice
-    requires { ⌜ (storeOk (now store) ≡ true) × (sameIndex x (indexOf (now store)) ≡ true) ⌝ }
-    ensures { λ r. ⌜ r ≡ foundIn (now (store .entry)) x signature platform ⌝ }
+// The stored update that covers the processor, by the store's own index, which is lent by its columns.
+fn find_in<'a>(
+    store: &[u8],
+    kinds: &'a [u32; MOST_BLOCKS],
+    starts: &'a [u32; MOST_BLOCKS],
+    revisions: &'a [u32; MOST_BLOCKS],
+    sizes: &'a [u32; MOST_BLOCKS],
+    signature: u32,
+    platform: u32,
+) -> LoadChoice
+    requires { ⌜ (storeOk (now store) ≡ true) × (sameIndex (columns (now kinds) (now starts) (now revisions) (now sizes))
+        (indexOf (now store)) ≡ true) ⌝ }
+    ensures { λ r. ⌜ r ≡ foundIn (now (store .entry)) (columns (now (kinds .entry)) (now (starts .entry)) (now (revisions .entry))
+        (now (sizes .entry))) signature platform ⌝ }
 {
     let n = store.len() / BLOCK;
     let mut b: usize = 0;
     while b < n {
-        if x.kinds[b] == store_index::FIRST {
+        if kinds[b] == store_index::FIRST {
             let u = store_blocks::from_block(store, b as u32);
             if update_coverage::covers_with(
                 u,
@@ -32,7 +42,7 @@ fn find_in(store: &[u8], x: Index, signature: u32, platform: u32) -> LoadChoice
             ) {
                 return LoadChoice::Chosen {
                     start: b as u32,
-                    revision: x.revisions[b],
+                    revision: revisions[b],
                 };
             }
             b += 1;
@@ -43,17 +53,25 @@ fn find_in(store: &[u8], x: Index, signature: u32, platform: u32) -> LoadChoice
     LoadChoice::Nothing
 }
 
-// The choice for a processor. The store is read once, for its own index; then the given one, which is the same, decides.
+// The choice for a processor. The store is read once; then its own index decides.
 pub fn choose(loading: bool, store: &[u8], x: Index, signature: u32, platform: u32) -> LoadChoice
     ensures { λ r. ⌜ r ≡ indexedChoice loading (now (store .entry)) x signature platform ⌝ }
 {
     let d = store_directory::read_store(store);
     let ok = d.ok;
     if ok {
-        if same::same_index(x, store_index::index_of(store, d)) {
+        if own::is_own(store, d, &x.kinds, &x.starts, &x.revisions, &x.sizes) {
             if platform <= 7 {
                 if loading {
-                    find_in(store, x, signature, platform)
+                    find_in(
+                        store,
+                        &x.kinds,
+                        &x.starts,
+                        &x.revisions,
+                        &x.sizes,
+                        signature,
+                        platform,
+                    )
                 } else {
                     LoadChoice::Nothing
                 }

@@ -2,8 +2,13 @@
 pub mod Index
 pub mod IndexAfter
 pub mod SameIndex
-pub mod SameIndexLaws
 pub mod UpdateLines
+pub mod OwnLines
+pub mod SameIndexLaws
 pub mod LineLaws
 pub mod OwnIndex
 pub mod IndexLines
+pub mod OwnLineLaws
+pub mod OwnIndexLaws
+pub mod AfterLines
+pub mod AfterLineLaws

@@ -1,76 +1,48 @@
 // The index after an accepted write.
 ghost use mathlib.Core.Path.{_≡_};
-ghost use Prim.Native.Nat.{_<_};
-ghost use Rattle.laws.specs.Bits.{bit};
-ghost use Rattle.store_index.specs.Index.{updateLine};
-ghost use Rattle.store_index.specs.IndexAfter.{clearedLine, lineAfter, indexAfter};
-use crate::FIRST;
+ghost use Rattle.store_index.specs.IndexAfter.{indexAfter};
+ghost use Rattle.store_index.specs.IndexLines.{columns};
+ghost use Rattle.store_index.specs.UpdateLines.{Columns};
+ghost use Rattle.store_index.specs.AfterLines.{runEnd, Cleared};
 use crate::Index;
-use crate::LATER;
-use crate::Line;
 use crate::UNUSED;
+use crate::lines;
 use store_blocks::MOST_BLOCKS;
-use store_directory::kind;
 
-// Is bit `b` of the emptied blocks set?
-fn is_emptied(emptied: u32, b: u32) -> bool
-    requires { ⌜ b < 32 ⌝ }
-    ensures { λ r. ⌜ r ≡ bit emptied b ⌝ }
+// The end of the run of `size` blocks from `start` on. It doesn't wrap, and blocks above 31 are ignored.
+fn run_end(start: u32, size: u32) -> usize
+    ensures { λ r. ⌜ r ≡ runEnd start size ⌝ }
 {
-    (emptied >> b) % 2 == 1
+    let end = start as usize + size as usize;
+    if end < MOST_BLOCKS { end } else { MOST_BLOCKS }
 }
 
-fn update_line(start: u32, revision: u32, size: u32, b: u32) -> Line
-    ensures { λ r. ⌜ r ≡ updateLine start revision size b ⌝ }
+// Clears the lines of the emptied blocks.
+fn clear_lines(
+    kinds: &mut [u32; MOST_BLOCKS],
+    starts: &mut [u32; MOST_BLOCKS],
+    revisions: &mut [u32; MOST_BLOCKS],
+    sizes: &mut [u32; MOST_BLOCKS],
+    emptied: u32,
+)
+    requires { ⌜ Columns (now kinds) (now starts) (now revisions) (now sizes) ⌝ }
+    ensures { λ _. ⌜ Cleared emptied 32 (columns (now (kinds .entry)) (now (starts .entry)) (now (revisions .entry)) (now (sizes .entry)))
+        (columns (now (kinds .exit)) (now (starts .exit)) (now (revisions .exit)) (now (sizes .exit))) ⌝ }
 {
-    if start == b {
-        Line {
-            kind: FIRST,
-            start,
-            revision,
-            size,
+    let mut left = emptied;
+    let mut b: usize = 0;
+    while left != 0 {
+        if left % 2 == 1 {
+            kinds[b] = UNUSED;
+            starts[b] = 0;
+            revisions[b] = 0;
+            sizes[b] = 0;
+            left = left / 2;
+            b += 1;
+        } else {
+            left = left / 2;
+            b += 1;
         }
-    } else {
-        Line {
-            kind: LATER,
-            start,
-            revision,
-            size,
-        }
-    }
-}
-
-// The line of a block outside the run.
-fn cleared_line(old: Index, emptied: u32, b: u32) -> Line
-    requires { ⌜ b < 32 ⌝ }
-    ensures { λ r. ⌜ r ≡ clearedLine old emptied b ⌝ }
-{
-    if is_emptied(emptied, b) {
-        Line {
-            kind: UNUSED,
-            start: 0,
-            revision: 0,
-            size: 0,
-        }
-    } else {
-        let i = b as usize;
-        Line {
-            kind: old.kinds[i],
-            start: old.starts[i],
-            revision: old.revisions[i],
-            size: old.sizes[i],
-        }
-    }
-}
-
-fn line_after(old: Index, emptied: u32, start: u32, revision: u32, size: u32, b: u32) -> Line
-    requires { ⌜ b < 32 ⌝ }
-    ensures { λ r. ⌜ r ≡ lineAfter old emptied start revision size b ⌝ }
-{
-    if kind::owns(start, size, b) {
-        update_line(start, revision, size, b)
-    } else {
-        cleared_line(old, emptied, b)
     }
 }
 
@@ -84,12 +56,25 @@ pub fn index_after(old: Index, emptied: u32, start: u32, revision: u32, size: u3
     let mut sizes = [0u32; MOST_BLOCKS];
     let mut i: usize = 0;
     while i < MOST_BLOCKS {
-        let line = line_after(old, emptied, start, revision, size, i as u32);
-        kinds[i] = line.kind;
-        starts[i] = line.start;
-        revisions[i] = line.revision;
-        sizes[i] = line.size;
+        kinds[i] = old.kinds[i];
+        starts[i] = old.starts[i];
+        revisions[i] = old.revisions[i];
+        sizes[i] = old.sizes[i];
         i += 1;
+    }
+    clear_lines(&mut kinds, &mut starts, &mut revisions, &mut sizes, emptied);
+    let end = run_end(start, size);
+    if (start as usize) < end {
+        lines::put_lines(
+            &mut kinds,
+            &mut starts,
+            &mut revisions,
+            &mut sizes,
+            start,
+            revision,
+            size,
+            end,
+        );
     }
     Index {
         kinds,

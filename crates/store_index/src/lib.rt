@@ -1,7 +1,7 @@
 // The index of a store: for each of up to 32 blocks what it is, and of which update.
 pub mod after;
 mod lines;
-pub mod same;
+pub mod own;
 
 ghost use mathlib.Core.Path.{_≡_};
 ghost use mathlib.Core.Bool.{true};
@@ -67,6 +67,7 @@ pub fn index_of(store: &[u8], d: Directory) -> Index
             start,
             revision,
             size,
+            start as usize + size as usize,
         );
         i += 1;
     }

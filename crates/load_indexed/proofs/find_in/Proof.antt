@@ -5,16 +5,18 @@ use Prim.Native.Nat.{_/_, _≤_, _-_}
 use native.Mathlib.Omega.{arith}
 use lib.ListN.{length}
 use Rattle.laws.specs.Below.{anyBelow, any-none}
+use Rattle.store_index.specs.IndexLines.{columns}
 use Rattle.load_indexed.specs.IndexedLoad.{holdsIn}
 use Rattle.load_indexed.specs.IndexedLoadLaws.{blocks-most, first-pairs, scan-other, scan-next, scan-found, scan-nothing}
 use Rattle.load_indexed.proofs.find_in.Statement.{statement}
 use Rattle.load_indexed.proofs.find_in.Tie as tie
 
 abbrev Inv-loop : tie.InvT-loop
-Inv-loop store signature platform x n b₀ b = (anyBelow b (holdsIn store x signature platform) ≡ false) × ((b ≤ n) × ((n ≡ length store / 2048) × (n ≤ 32)))
+Inv-loop store kinds starts revisions sizes signature platform n b₀ b =
+    (anyBelow b (holdsIn store (columns kinds starts revisions sizes) signature platform) ≡ false) × ((b ≤ n) × ((n ≡ length store / 2048) × (n ≤ 32)))
 
 abbrev μ-loop : tie.MeasureT-loop
-μ-loop store signature platform x n b₀ b = n - b
+μ-loop store kinds starts revisions sizes signature platform n b₀ b = n - b
 
 loop-holds : tie.Need-loop-holds Inv-loop μ-loop
 loop-holds c =

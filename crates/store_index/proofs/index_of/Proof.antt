@@ -22,6 +22,7 @@ put-lines-requires c κs =
     let v = w .before .before in
     let l = v .before .before in
     let pre = l .before .before .before .pre in (
+      omega arith,
       lines-inside _ _ (pre .0) (pre .1) (l .before .loop .i) _ _ (omega (arith, l .loop-test .taken)) (v .wide .ensures .0) (w .wide2 .ensures .0),
       l .before .loop .inv .0 .long,
     )
@@ -58,6 +59,9 @@ index-of-spec =
     (λ c κs. tt)
     (λ c κs. tt)
     (λ c κs. tt)
+    (λ c. omega arith)
+    (λ c. omega arith)
+    (λ c. omega arith)
     put-lines-requires
     (λ c. omega arith)
     (λ c. omega arith)

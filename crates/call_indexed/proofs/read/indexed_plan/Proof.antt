@@ -9,13 +9,15 @@ use Rattle.call_indexed.proofs.read.indexed_plan.Tie as tie
 
 element-copy-out-line-plan : tie.Need-element-copy-out-line-plan
 element-copy-out-line-plan c =
-    let t = c .before .before .before .before in
+    let m = c .before .before in
+    let t = m .before .before .before .before .before .before in
     omega (arith, c .if3 .taken, blocks-few _ _ (t .before .read-store .ensures) (t .if1 .taken))
 
 element-copy-out-line-plan-2 : tie.Need-element-copy-out-line-plan-2
 element-copy-out-line-plan-2 c =
     let l = c .before in
-    let t = l .before .before .before .before in
+    let m = l .before .before in
+    let t = m .before .before .before .before .before .before in
     omega (arith, l .if3 .taken, blocks-few _ _ (t .before .read-store .ensures) (t .if1 .taken))
 
 returns : tie.Need-returns
@@ -23,20 +25,20 @@ unfolding lineOf
 returns c =
     let b = c .before .before .before in
     let m = b .before .before in
-    let t = m .before .before in
-    indexed-line _ _ _ _ _ (t .before .read-store .ensures) (t .if1 .taken) _ (m .before .index-of .ensures) _ (m .same-index .ensures) (b .before .if2 .taken) _ (b .if3 .taken) (c .line-plan .ensures)
+    let t = m .before .before .before .before .before .before in
+    indexed-line _ _ _ _ _ (t .before .read-store .ensures) (t .if1 .taken) _ (m .is-own .ensures) (b .before .if2 .taken) _ (b .if3 .taken) (c .line-plan .ensures)
 
 returns-2 : tie.Need-returns-2
 returns-2 c =
     let m = c .before .before in
-    let t = m .before .before in
-    indexed-number _ _ _ _ _ (t .before .read-store .ensures) (t .if1 .taken) _ (m .before .index-of .ensures) _ (m .same-index .ensures) (c .before .if2 .taken) (c .if3 .left)
+    let t = m .before .before .before .before .before .before in
+    indexed-number _ _ _ _ _ (t .before .read-store .ensures) (t .if1 .taken) _ (m .is-own .ensures) (c .before .if2 .taken) (c .if3 .left)
 
 returns-3 : tie.Need-returns-3
 returns-3 c =
     let m = c .before in
-    let t = m .before .before in
-    indexed-foreign _ _ _ _ _ (t .before .read-store .ensures) (t .if1 .taken) _ (m .before .index-of .ensures) _ (m .same-index .ensures) (c .if2 .left)
+    let t = m .before .before .before .before .before .before in
+    indexed-foreign _ _ _ _ _ (t .before .read-store .ensures) (t .if1 .taken) _ (m .is-own .ensures) (c .if2 .left)
 
 returns-4 : tie.Need-returns-4
 returns-4 c = indexed-bad _ _ _ _ _ (c .before .read-store .ensures) (c .if1 .left)
@@ -46,8 +48,7 @@ indexed-plan-spec =
     tie.close
     (tie.spec
     (search needs)
-    (λ c κs. (c .before .read-store .ensures, c .if1 .taken))
-    (search needs)
+    (λ c κs. let t = c .before .before .before .before .before in (t .before .read-store .ensures, t .if1 .taken))
     (λ c. omega arith)
     element-copy-out-line-plan
     (λ c. omega arith)

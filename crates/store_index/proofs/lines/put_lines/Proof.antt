@@ -1,7 +1,7 @@
 -- `store_index::lines::put_lines` meets its contract. The loop's invariant: each column has its number at the places passed, and its old ones
 -- elsewhere.
 use mathlib.Core.Path.{_≡_}
-use Prim.Native.Nat.{ℕ, _≤_, _-_, _+_}
+use Prim.Native.Nat.{_≤_, _-_}
 use native.Mathlib.Omega.{arith}
 use borrow.Author.Needs.{needs}
 use Rattle.store_index.specs.UpdateLines.{kindFrom, always, Spread, all-same, spread-none, spread-more, spread-done}
@@ -20,13 +20,16 @@ abbrev μ-loop : tie.MeasureT-loop
 loop-again : tie.Need-loop-again Inv-loop μ-loop
 loop-again c =
     let l = c .before .before .loop in
-    let n = c .before .before .before .pre .1 in (
+    let n = c .before .before .before .pre .2 in (
       spread-more _ _ _ (l .b) _ _ (l .inv .0) (omega arith) (omega (arith, n .kinds-long)) (c .kind-from .ensures),
       (
         spread-more _ _ _ (l .b) _ _ (l .inv .1 .0) (omega arith) (omega (arith, n .starts-long)) (all-same _ _),
         (
           spread-more _ _ _ (l .b) _ _ (l .inv .1 .1 .0) (omega arith) (omega (arith, n .revisions-long)) (all-same _ _),
-          (spread-more _ _ _ (l .b) _ _ (l .inv .1 .1 .1 .0) (omega arith) (omega (arith, n .sizes-long)) (all-same _ _), (omega arith, omega arith)),
+          (
+            spread-more _ _ _ (l .b) _ _ (l .inv .1 .1 .1 .0) (omega arith) (omega (arith, n .sizes-long)) (all-same _ _),
+            (omega arith, omega arith),
+          ),
         ),
       ),
     )
@@ -50,7 +53,6 @@ put-lines-spec =
     (tie.spec
     Inv-loop
     μ-loop
-    (λ c. omega arith)
     (λ c. (spread-none _ _ _, (spread-none _ _ _, (spread-none _ _ _, (spread-none _ _ _, (omega arith, omega arith))))))
     (λ c. omega arith)
     (λ c κs. tt)
