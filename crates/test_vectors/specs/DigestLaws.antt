@@ -1,8 +1,9 @@
 -- Laws of the digest.
---   digest-none    of no bytes
---   digest-next    one byte more
---   digest-four    four bytes more
+--   digest-none    of no numbers
+--   digest-next    one number more
+--   digest-four    four numbers more
 --   digest-all     up to the end
+--   digest-index   up to the end of an index
 --   four-steps     four steps are one sum modulo 2^32 - 5
 use Prim.Native.Nat.{ℕ, _+_, _*_, _/_, _%_, _≤_}
 use mathlib.Core.Path.{_≡_, refl, sym}
@@ -11,7 +12,7 @@ use native.Mathlib.Nat.{add-mul-mod-self-left}
 use native.Mathlib.Numerals.{add-one}
 use native.Mathlib.Omega.{arith}
 use lib.ListN.{length, getD}
-use Rattle.test_vectors.specs.Digest.{modulus, digestStep, digestTo, digest}
+use Rattle.test_vectors.specs.Digest.{modulus, digestStep, digestTo, digest, indexDigest}
 
 module _ (s : List ℕ) where
   pub digest-none : 1 ≡ digestTo s 0
@@ -32,6 +33,10 @@ module _ (s : List ℕ) where
   pub digest-all : (i h : ℕ) → h ≡ digestTo s i → i ≤ length s → length s ≤ i → h ≡ digest s
   unfolding digest
   digest-all i h k l m = let e : length s ≡ i = omega arith in rw e k
+
+  pub digest-index : (i h : ℕ) → h ≡ digestTo s i → i ≤ 128 → 128 ≤ i → h ≡ indexDigest s
+  unfolding indexDigest
+  digest-index i h k l m = let e : 128 ≡ i = omega arith in rw e k
 
 two-steps : (h a b : ℕ) → digestStep (digestStep h a) b ≡ digestStep (h * 31 + a) b
 unfolding digestStep

@@ -8,3 +8,5 @@ pub mod OperandLaws
 pub mod Edits
 pub mod EditLaws
 pub mod CallLine
+pub mod IndexLine
+pub mod IndexedLine

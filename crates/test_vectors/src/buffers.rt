@@ -7,6 +7,9 @@ pub const DESTINATION: usize = 69632;
 
 pub const LIST: usize = 16;
 
+// Words of an index.
+pub const INDEX: usize = 128;
+
 pub type Store = [u8; STORE];
 
 pub type Candidate = [u8; CANDIDATE];
@@ -16,3 +19,5 @@ pub type Destination = [u8; DESTINATION];
 pub type Signatures = [u32; LIST];
 
 pub type Platforms = [u8; LIST];
+
+pub type Index = [u32; INDEX];

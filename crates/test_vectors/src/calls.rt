@@ -51,7 +51,7 @@ fn call_operands(b: &[u8; 21], good: bool) -> CallOperands
     }
 }
 
-fn load_operands(b: &[u8; 9], good: bool) -> LoadOperands
+pub fn load_operands(b: &[u8; 9], good: bool) -> LoadOperands
     ensures { λ r. ⌜ r ≡ loadOperands (now (b .entry)) good ⌝ }
 {
     LoadOperands {

@@ -9,12 +9,30 @@ pub struct Line {
     pub destination: u32,
 }
 
-pub fn write(line: Line) {
+// The line of a call that makes an index, with its digest behind.
+pub struct IndexLine {
+    pub line: Line,
+    pub index: u32,
+}
+
+// The columns that every line has.
+fn columns(line: Line) {
     let answer = line.answer;
     test_output::dword(b"", line.result);
     test_output::words(&answer);
     test_output::dword(b" ", line.store);
     test_output::dword(b" ", line.destination);
+}
+
+pub fn write(line: Line) {
+    columns(line);
+    test_output::text(b"\n");
+}
+
+pub fn write_index(made: IndexLine) {
+    let line = made.line;
+    columns(line);
+    test_output::dword(b" ", made.index);
     test_output::text(b"\n");
 }
 

@@ -3,6 +3,8 @@ mod buffers;
 mod calls;
 mod digest;
 mod edits;
+mod indexed;
+mod indexes;
 mod input;
 mod lengths;
 mod lines;
@@ -12,6 +14,7 @@ mod state;
 
 use crate::buffers::CANDIDATE;
 use crate::buffers::DESTINATION;
+use crate::buffers::INDEX;
 use crate::buffers::LIST;
 use crate::buffers::STORE;
 
@@ -21,12 +24,14 @@ fn main() {
     let mut destination = [0u8; DESTINATION];
     let mut signatures = [0u32; LIST];
     let mut platforms = [0u8; LIST];
+    let mut index = [0u32; INDEX];
     let last = run::run(
         &mut store,
         &mut candidate,
         &mut destination,
         &mut signatures,
         &mut platforms,
+        &mut index,
     );
     lines::last(last);
 }

@@ -5,15 +5,23 @@
 //   4  the processors     m u8, m signatures u32, n u8, n platforms u8
 //   5  a call             function u32, sub-function u32, task u32, block u32, read-back u32, loading u8
 //   6  a load choice      signature u32, platform u32, loading u8
-// Buffer 0 is the store, 1 the candidate, 2 the destination. They begin as zeros of length 0.
+//   7  an index           no operands
+//   8  a carried index    emptied u32, start u32, revision u32, size u32
+//   9  a number of it     place u8, number u32
+//  10  a read through it  block u32
+//  11  a load choice      signature u32, platform u32, loading u8; through the index
+// Buffer 0 is the store, 1 the candidate, 2 the destination. They begin as zeros of length 0, and the index as 128 zeros.
 ghost use Rattle.test_vectors.specs.RunState.{Within};
 use crate::buffers::Candidate;
 use crate::buffers::Destination;
+use crate::buffers::Index;
 use crate::buffers::Platforms;
 use crate::buffers::Signatures;
 use crate::buffers::Store;
 use crate::calls;
 use crate::edits;
+use crate::indexed;
+use crate::indexes;
 use crate::input;
 use crate::lengths;
 use crate::lists;
@@ -29,6 +37,7 @@ fn step(
     destination: &mut Destination,
     signatures: &mut Signatures,
     platforms: &mut Platforms,
+    index: &mut Index,
 ) -> State
     requires { ⌜ Within s ⌝ }
     ensures { λ r. ⌜ Within r ⌝ }
@@ -39,6 +48,11 @@ fn step(
         4 => lists::list(s, signatures, platforms),
         5 => calls::call(s, store, candidate, destination, signatures, platforms),
         6 => calls::load(s, store, destination),
+        7 => indexes::make(s, store, destination, index),
+        8 => indexes::after(s, store, destination, index),
+        9 => indexes::put(s, index),
+        10 => indexed::read(s, index, store, destination),
+        11 => indexed::load(s, index, store, destination),
         _ => state::judged(s, false),
     }
 }
@@ -50,6 +64,7 @@ pub fn run(
     destination: &mut Destination,
     signatures: &mut Signatures,
     platforms: &mut Platforms,
+    index: &mut Index,
 ) -> State {
     let mut s = state::begun();
     let mut i: u32 = 0;
@@ -58,7 +73,16 @@ pub fn run(
         if op == input::END {
             return s;
         }
-        s = step(op, s, store, candidate, destination, signatures, platforms);
+        s = step(
+            op,
+            s,
+            store,
+            candidate,
+            destination,
+            signatures,
+            platforms,
+            index,
+        );
         if !s.good {
             return s;
         }

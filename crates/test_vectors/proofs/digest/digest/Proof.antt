@@ -1,5 +1,5 @@
 -- `test_vectors::digest::digest` meets its contract. The invariant of both loops: `h` is the digest of the bytes passed.
-use mathlib.Core.Path.{_≡_}
+use mathlib.Core.Path.{_≡_, refl}
 use Prim.Native.Nat.{_≤_, _<_, _-_}
 use borrow.Author.Needs.{needs}
 use Rattle.test_vectors.specs.Digest.{modulus, digestTo}
@@ -18,6 +18,13 @@ Inv-loop2 s n h₀ i₀ h i = (i ≤ n) × (h < modulus) × (h ≡ digestTo s i)
 
 abbrev μ-loop2 : tie.MeasureT-loop2
 μ-loop2 s n h₀ i₀ h i = n - i
+
+loop2-again : tie.Need-loop2-again Inv-loop μ-loop Inv-loop2 μ-loop2
+loop2-again c =
+    let w = c .before in
+    let l = w .before .before .before .loop2 in
+    let e = rw (w .wide .ensures .0) at (c .step .ensures .0) in
+    (search needs, search needs, digest-next _ _ _ _ _ e (l .inv .2) refl)
 
 pub digest-spec : {M : Type 1} → statement M
 digest-spec =
@@ -42,9 +49,10 @@ digest-spec =
     (λ c. (search needs, search needs, digest-four _ _ _ _ (c .four .ensures .0) (c .before .before .before .before .before .before .loop .inv .2)))
     (λ c. search needs)
     (λ c. search needs)
+    (λ c κs. tt)
     (λ c κs. search needs)
     (λ c. search needs)
     (λ c. search needs)
-    (λ c. search (needs, digest-next))
+    loop2-again
     (λ c. search needs)
     (λ c. search (needs, digest-all)))

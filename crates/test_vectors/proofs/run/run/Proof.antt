@@ -8,10 +8,10 @@ use Rattle.test_vectors.proofs.run.run.Statement.{statement}
 use Rattle.test_vectors.proofs.run.run.Tie as tie
 
 abbrev Inv-loop : tie.InvT-loop
-Inv-loop store₀ candidate₀ destination₀ signatures₀ platforms₀ s₀ i₀ store candidate destination signatures platforms s i = Within s
+Inv-loop store₀ candidate₀ destination₀ signatures₀ platforms₀ index₀ s₀ i₀ store candidate destination signatures platforms index s i = Within s
 
 abbrev μ-loop : tie.MeasureT-loop
-μ-loop store₀ candidate₀ destination₀ signatures₀ platforms₀ s₀ i₀ store candidate destination signatures platforms s i = 1000000 - i
+μ-loop store₀ candidate₀ destination₀ signatures₀ platforms₀ index₀ s₀ i₀ store candidate destination signatures platforms index s i = 1000000 - i
 
 pub run-spec : {M : Type 1} → statement M
 run-spec =

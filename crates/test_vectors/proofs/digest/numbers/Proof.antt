@@ -1,0 +1,30 @@
+-- `test_vectors::digest::numbers` meets its contract. The loop's invariant: `h` is the digest of the numbers passed.
+use mathlib.Core.Path.{_≡_}
+use Prim.Native.Nat.{_≤_, _<_, _-_}
+use borrow.Author.Needs.{needs}
+use Rattle.test_vectors.specs.Digest.{modulus, digestTo}
+use Rattle.test_vectors.specs.DigestLaws.{digest-none, digest-next, digest-index}
+use Rattle.test_vectors.proofs.digest.numbers.Statement.{statement}
+use Rattle.test_vectors.proofs.digest.numbers.Tie as tie
+
+abbrev Inv-loop : tie.InvT-loop
+Inv-loop x h₀ i₀ h i = (i ≤ 128) × (h < modulus) × (h ≡ digestTo x i)
+
+abbrev μ-loop : tie.MeasureT-loop
+μ-loop x h₀ i₀ h i = 128 - i
+
+pub numbers-spec : {M : Type 1} → statement M
+numbers-spec =
+    tie.close
+    (tie.spec
+    Inv-loop
+    μ-loop
+    (λ c. search (needs, digest-none))
+    (λ c. search needs)
+    (λ c. search needs)
+    (λ c κs. search needs)
+    (λ c. search needs)
+    (λ c. search needs)
+    (λ c. search (needs, digest-next))
+    (λ c. search needs)
+    (λ c. search (needs, digest-index)))
