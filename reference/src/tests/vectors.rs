@@ -109,7 +109,6 @@ fn the_steps_of_the_index() {
 }
 
 #[test]
-#[ignore = "the published files are to be written again"]
 fn the_published_files_are_those_that_are_written() {
     let directory = env::temp_dir().join(format!("vectors-{}", process::id()));
     let result = vectors::write_vectors(&directory);
@@ -122,7 +121,6 @@ fn the_published_files_are_those_that_are_written() {
 }
 
 #[test]
-#[ignore = "the published files are to be written again"]
 fn the_published_answers_are_those_of_both_forms() {
     let stdin = published(PROGRAM, "stdin");
     let stdout = String::from_utf8(published(PROGRAM, "stdout")).unwrap();
