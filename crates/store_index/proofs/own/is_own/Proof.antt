@@ -83,5 +83,5 @@ is-own-spec =
     (λ c. omega arith)
     (λ c. omega arith)
     loop-again
-    (λ c κs. (c .before .loop .inv .1 .1 .0, omega arith))
+    (λ c κs. let n = c .before .loop .inv .1 .1 .0 in (omega (arith, n), omega (arith, n)))
     returns)
