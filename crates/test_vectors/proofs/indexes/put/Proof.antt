@@ -1,4 +1,4 @@
--- `test_vectors::indexes::put` meets its contract: the place of good operands is one of the index's, and only whether the state is good changes.
+-- `test_vectors::indexes::put` meets its contract: the place of good operands is one of the 128; only whether the state is good changes.
 use mathlib.Core.Bool.{false}
 use borrow.Author.Needs.{needs}
 use Rattle.test_vectors.specs.OperandLaws.{good-place}
