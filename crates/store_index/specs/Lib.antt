@@ -12,3 +12,4 @@ pub mod OwnLineLaws
 pub mod OwnIndexLaws
 pub mod AfterLines
 pub mod AfterLineLaws
+pub mod IndexExamples
