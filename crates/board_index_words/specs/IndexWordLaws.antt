@@ -1,5 +1,4 @@
 -- Laws of the words of an index.
---   placedFrom         number c of a column that is put at `at`
 --   put-none, put-more     a loop that puts a column
 --   words-made         four columns, one put behind the other, are the words of an index
 --   reply-row          the answer words of the index call
@@ -12,17 +11,15 @@ use lib.ListN.{length, getD, set, length-append, List·getD-append}
 use lib.Seq.{ext-getD, getD-append-add}
 use Rattle.laws.specs.Orders.{le-or-lt}
 use Rattle.laws.specs.Tabulate.{length-tabulate, getD-tabulate}
-use Rattle.store_index.specs.UpdateLines.{Spread, spread-none, spread-more}
+use Rattle.store_index.specs.UpdateLines.{Spread}
+use Rattle.store_index.specs.UpdateLineLaws.{spread-none, spread-more}
 use Rattle.store_index.specs.declared.Index.{Index}
 use Rattle.call_indexed.specs.IndexCall.{indexReply}
 use Rattle.call_indexed.specs.IndexCallLaws.{reply-carry}
 use Rattle.call_indexed.specs.declared.index.IndexReply.{IndexReply}
 use Rattle.board_row.specs.Row.{rowOf}
-use Rattle.board_index_words.specs.IndexWords.{wordFrom, column, part, indexWords}
+use Rattle.board_index_words.specs.IndexWords.{wordFrom, column, part, indexWords, placedFrom}
 use Rattle.board_index_words.specs.IndexAnswerWords.{indexCase, replyWords}
-
-unfoldable pub placedFrom : List ℕ → ℕ → ℕ → ℕ
-placedFrom numbers at c = getD numbers (c - at) 0
 
 -- a loop that puts a column: its start and its turn
 module _ (numbers : List ℕ) (at : ℕ) (old : List ℕ) where

@@ -4,7 +4,8 @@
 --   wordFrom      word i of those from `at` on
 --   column        the 32 words from `at` on
 --   wordsIndex    the index that words hold
-use Prim.Native.Nat.{ℕ, _+_}
+--   placedFrom    word c, where a column is put at `at`
+use Prim.Native.Nat.{ℕ, _+_, _-_}
 use mathlib.Core.List.{List, _++_}
 use lib.ListN.{getD}
 use Rattle.laws.specs.Tabulate.{tabulate}
@@ -24,3 +25,7 @@ indexWords x = part (x .kinds) ++ (part (x .starts) ++ (part (x .revisions) ++ p
 
 unfoldable pub wordsIndex : List ℕ → Index
 wordsIndex words = record { kinds = column words 0; starts = column words 32; revisions = column words 64; sizes = column words 96 }
+
+-- word c, where a column is put at the words from `at` on
+unfoldable pub placedFrom : List ℕ → ℕ → ℕ → ℕ
+placedFrom numbers at c = getD numbers (c - at) 0

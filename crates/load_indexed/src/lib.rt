@@ -2,8 +2,7 @@
 ghost use mathlib.Core.Path.{_≡_};
 ghost use mathlib.Core.Bool.{true};
 ghost use Rattle.store_directory.specs.Scan.{storeOk};
-ghost use Rattle.store_index.specs.Index.{indexOf};
-ghost use Rattle.store_index.specs.IndexLines.{columns};
+ghost use Rattle.store_index.specs.Index.{indexOf, columns};
 ghost use Rattle.store_index.specs.SameIndex.{sameIndex};
 ghost use Rattle.load_choice.specs.Load.{chosenData};
 ghost use Rattle.load_indexed.specs.IndexedLoad.{foundIn, indexedChoice};

@@ -23,9 +23,8 @@ use Rattle.laws.specs.Arrays.{Filled}
 use Rattle.laws.specs.Unless.{unless}
 use Rattle.store_index.specs.declared.Line.{Line}
 use Rattle.store_index.specs.declared.Index.{Index}
-use Rattle.store_index.specs.Index.{unusedLine, updateLine, lineOf, indexBy}
+use Rattle.store_index.specs.Index.{unusedLine, updateLine, lineOf, indexBy, columns}
 use Rattle.store_index.specs.IndexAfter.{clearedLine, lineAfter, indexAfter}
-use Rattle.store_index.specs.IndexLines.{columns}
 use Rattle.store_index.specs.UpdateLines.{Columns, kindFrom, always, Spread}
 use Rattle.store_index.specs.LineLaws.{index-is}
 use Rattle.store_index.specs.AfterLines.{runEnd, wordAt, Cleared}

@@ -1,6 +1,5 @@
 -- The index of a valid store, as the code makes it: the lines of one update after the other.
 --   LinesTo                     the lines of the first i entries of the directory stand, and the others are unused
---   columns                     the index of four columns
 --   lines-none, lines-more      a loop's start and its turn
 --   lines-inside                an update ends at block 32 or before
 --   lines-done                  all lines stand: it is the store's index
@@ -29,12 +28,9 @@ use Rattle.store_directory.specs.ValidLaws.{store-valid}
 use Rattle.store_directory.specs.declared.Directory.{Directory}
 use Rattle.store_index.specs.declared.Line.{Line}
 use Rattle.store_index.specs.declared.Index.{Index}
-use Rattle.store_index.specs.Index.{unusedLine, updateLine, storedLine, lineAt, lineIn, lineOf, indexOf}
+use Rattle.store_index.specs.Index.{unusedLine, updateLine, storedLine, lineAt, lineIn, lineOf, columns, indexOf}
 use Rattle.store_index.specs.UpdateLines.{Columns, kindFrom, always, Spread}
 use Rattle.store_index.specs.LineLaws.{owned-or-free, owned-line, free-line, index-is}
-
-abbrev pub columns : List ℕ → List ℕ → List ℕ → List ℕ → Index
-columns kinds starts revisions sizes = record { kinds = kinds; starts = starts; revisions = revisions; sizes = sizes }
 
 pub record LinesTo (s : List ℕ) (d : Directory) (i : ℕ) (x : Index) : Type 0 where
   pub long : Columns (x .kinds) (x .starts) (x .revisions) (x .sizes)

@@ -4,12 +4,13 @@ pub mod IndexAfter
 pub mod SameIndex
 pub mod UpdateLines
 pub mod OwnLines
+pub mod AfterLines
+pub mod UpdateLineLaws
 pub mod SameIndexLaws
 pub mod LineLaws
 pub mod OwnIndex
 pub mod IndexLines
 pub mod OwnLineLaws
 pub mod OwnIndexLaws
-pub mod AfterLines
 pub mod AfterLineLaws
 pub mod IndexExamples

@@ -1,7 +1,7 @@
 // The index after an accepted write.
 ghost use mathlib.Core.Path.{_≡_};
 ghost use Rattle.store_index.specs.IndexAfter.{indexAfter};
-ghost use Rattle.store_index.specs.IndexLines.{columns};
+ghost use Rattle.store_index.specs.Index.{columns};
 ghost use Rattle.store_index.specs.UpdateLines.{Columns};
 ghost use Rattle.store_index.specs.AfterLines.{runEnd, Cleared};
 use crate::Index;

@@ -3,8 +3,10 @@ use mathlib.Core.Path.{_≡_}
 use Prim.Native.Nat.{_+_, _≤_, _-_}
 use native.Mathlib.Omega.{arith}
 use borrow.Author.Needs.{needs}
-use Rattle.store_index.specs.UpdateLines.{Spread, spread-done}
-use Rattle.board_index_words.specs.IndexWordLaws.{placedFrom, put-none, put-more}
+use Rattle.store_index.specs.UpdateLines.{Spread}
+use Rattle.store_index.specs.UpdateLineLaws.{spread-done}
+use Rattle.board_index_words.specs.IndexWords.{placedFrom}
+use Rattle.board_index_words.specs.IndexWordLaws.{put-none, put-more}
 use Rattle.board_index_words.proofs.put_column.Statement.{statement}
 use Rattle.board_index_words.proofs.put_column.Tie as tie
 

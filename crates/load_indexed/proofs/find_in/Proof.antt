@@ -5,7 +5,7 @@ use Prim.Native.Nat.{_/_, _≤_, _-_}
 use native.Mathlib.Omega.{arith}
 use lib.ListN.{length}
 use Rattle.laws.specs.Below.{anyBelow, any-none}
-use Rattle.store_index.specs.IndexLines.{columns}
+use Rattle.store_index.specs.Index.{columns}
 use Rattle.load_indexed.specs.IndexedLoad.{holdsIn}
 use Rattle.load_indexed.specs.IndexedLoadLaws.{blocks-most, first-pairs, scan-other, scan-next, scan-found, scan-nothing}
 use Rattle.load_indexed.proofs.find_in.Statement.{statement}

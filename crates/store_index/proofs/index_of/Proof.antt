@@ -5,7 +5,8 @@ use native.Mathlib.Omega.{arith}
 use borrow.Author.Needs.{needs}
 use Rattle.update_header.specs.Fields.{revision}
 use Rattle.store_directory.specs.StoreLaws.{directory-few}
-use Rattle.store_index.specs.IndexLines.{LinesTo, columns, lines-none, lines-inside, lines-more, lines-done}
+use Rattle.store_index.specs.Index.{columns}
+use Rattle.store_index.specs.IndexLines.{LinesTo, lines-none, lines-inside, lines-more, lines-done}
 use Rattle.store_index.proofs.index_of.Statement.{statement}
 use Rattle.store_index.proofs.index_of.Tie as tie
 

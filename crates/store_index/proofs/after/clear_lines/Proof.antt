@@ -4,7 +4,7 @@ use mathlib.Core.Path.{_≡_}
 use Prim.Native.Nat.{_/_, _^_, _<_, _-_, _≤_}
 use native.Mathlib.Omega.{arith}
 use borrow.Author.Needs.{needs}
-use Rattle.store_index.specs.IndexLines.{columns}
+use Rattle.store_index.specs.Index.{columns}
 use Rattle.store_index.specs.AfterLines.{Cleared}
 use Rattle.store_index.specs.AfterLineLaws.{clear-none, clear-left, clear-inside, clear-set, clear-unset, clear-done}
 use Rattle.store_index.proofs.after.clear_lines.Statement.{statement}

@@ -4,7 +4,8 @@ use mathlib.Core.Path.{_≡_}
 use Prim.Native.Nat.{_≤_, _-_}
 use native.Mathlib.Omega.{arith}
 use borrow.Author.Needs.{needs}
-use Rattle.store_index.specs.UpdateLines.{kindFrom, always, Spread, all-same, spread-none, spread-more, spread-done}
+use Rattle.store_index.specs.UpdateLines.{kindFrom, always, Spread}
+use Rattle.store_index.specs.UpdateLineLaws.{all-same, spread-none, spread-more, spread-done}
 use Rattle.store_index.proofs.lines.put_lines.Statement.{statement}
 use Rattle.store_index.proofs.lines.put_lines.Tie as tie
 

@@ -6,7 +6,7 @@ use Prim.Native.Nat.{_≤_, _-_}
 use native.Mathlib.Omega.{arith}
 use Rattle.update_header.specs.Fields.{revision}
 use Rattle.store_directory.specs.StoreLaws.{directory-few}
-use Rattle.store_index.specs.IndexLines.{columns}
+use Rattle.store_index.specs.Index.{columns}
 use Rattle.store_index.specs.OwnLines.{Behind, OwnTo}
 use Rattle.store_index.specs.OwnIndexLaws.{behind-none, behind-more, own-none, own-more, next-gap, next-inside, own-done}
 use Rattle.store_index.proofs.own.is_own.Statement.{statement}

@@ -3,7 +3,7 @@ use mathlib.Core.Path.{_≡_}
 use Prim.Native.Nat.{_≤_, _-_}
 use native.Mathlib.Omega.{arith}
 use borrow.Author.Needs.{needs}
-use Rattle.store_index.specs.IndexLines.{columns}
+use Rattle.store_index.specs.Index.{columns}
 use Rattle.store_index.specs.OwnLines.{Gathered, UnusedFrom}
 use Rattle.store_index.specs.OwnLineLaws.{unused-none, unused-more, unused-done}
 use Rattle.store_index.proofs.own.unused_lines.Statement.{statement}

@@ -3,7 +3,7 @@ use mathlib.Core.Path.{_≡_}
 use Prim.Native.Nat.{_≤_, _-_}
 use native.Mathlib.Omega.{arith}
 use borrow.Author.Needs.{needs}
-use Rattle.store_index.specs.IndexLines.{columns}
+use Rattle.store_index.specs.Index.{columns}
 use Rattle.store_index.specs.OwnLines.{Gathered, UpdateFrom}
 use Rattle.store_index.specs.OwnLineLaws.{update-none, update-more, update-done}
 use Rattle.store_index.proofs.own.update_lines.Statement.{statement}
