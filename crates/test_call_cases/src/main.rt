@@ -1,9 +1,16 @@
-// Runs document 01's cases of the calls on the board's C interface, and writes for each the result and the 16 answer words.
+// Runs cases of the calls and of the index on the board's C interface, and writes for each the result and the 16 answer words.
 mod calls;
+mod carried;
+mod indexed;
+mod indexes;
 mod lines;
+mod numbers;
 mod writes;
 
 fn main() {
     writes::run();
     calls::run();
+    indexes::run();
+    carried::run();
+    indexed::run();
 }

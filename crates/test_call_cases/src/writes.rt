@@ -11,14 +11,15 @@ fn load(label: &[u8], store: &[u8], signature: u32) {
     lines::answer(label, ax, &answer);
 }
 
-fn write(
+// A write; its answer words are returned.
+pub fn write(
     label: &[u8],
     store: &mut [u8],
     signatures: &[u32],
     platforms: &[u8],
     candidate: &[u8],
     back: u32,
-) {
+) -> [u32; 16] {
     let mut destination = [0u8; 1];
     let mut answer = [0xA5A5A5A5u32; 16];
     let ax = board::update_store_call(
@@ -36,6 +37,7 @@ fn write(
         &mut answer,
     );
     lines::answer(label, ax, &answer);
+    answer
 }
 
 // Writes a revision of P into four blocks with P in block 1, for one listed processor.

@@ -1,0 +1,3 @@
+-- Two indexes compared.
+pub mod SameNumbers
+pub mod SameNumberLaws
