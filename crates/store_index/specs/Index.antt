@@ -8,6 +8,7 @@
 --   lineOfKind, lineAt      the line of block b of a store, by its kind
 --   lineIn                  the same, and an unused line behind N
 --   lineOf                  line b of an index
+--   kindOf .. sizeOf        the four columns of 32 lines
 --   columns                 the index of four columns
 --   indexBy                 the index of 32 lines
 --   allUnused               the index of a bad store
@@ -67,7 +68,6 @@ lineOf x b = record { kind = getD (x .kinds) b 0; start = getD (x .starts) b 0; 
 abbrev pub columns : List ℕ → List ℕ → List ℕ → List ℕ → Index
 columns kinds starts revisions sizes = record { kinds = kinds; starts = starts; revisions = revisions; sizes = sizes }
 
--- the four columns of 32 lines
 abbrev pub kindOf : (ℕ → Line) → ℕ → ℕ
 kindOf f b = f b .kind
 

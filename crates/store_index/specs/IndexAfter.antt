@@ -1,6 +1,7 @@
 -- The index after an accepted write, from the old index, the emptied blocks and the candidate's start, revision and size alone (document 02,
 -- One). All of them may be any numbers; blocks above 31 are ignored.
---   lineAfter     line by line: a block of the run is the candidate's; else a block whose emptied bit is set is unused; else the old line stays
+--   clearedLine   an unused line for a block whose emptied bit is set, else the old line, whatever its numbers
+--   lineAfter     for a block of the run the candidate's line, else the cleared one
 --   indexAfter    the whole index
 use Prim.Native.Nat.{ℕ}
 use Rattle.laws.specs.Bits.{bit}
@@ -10,7 +11,6 @@ use Rattle.store_index.specs.declared.Line.{Line}
 use Rattle.store_index.specs.declared.Index.{Index}
 use Rattle.store_index.specs.Index.{unusedLine, updateLine, lineOf, indexBy}
 
--- the old line, or an unused one
 unfoldable pub clearedLine : Index → ℕ → ℕ → Line
 clearedLine x emptied b = unless (bit emptied b) (lineOf x b) unusedLine
 
