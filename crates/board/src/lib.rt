@@ -12,6 +12,7 @@ ghost use Rattle.call_indexed.specs.IndexedRead.{indexedAnswer, indexedBytes};
 ghost use Rattle.load_indexed.specs.IndexedLoad.{indexedChoice};
 ghost use Rattle.board_index_words.specs.IndexWords.{indexWords, wordsIndex};
 ghost use Rattle.board_index_words.specs.IndexAnswerWords.{replyWords, replyAx, carriedWords};
+use call_reads::read;
 use store_index::after;
 
 // The image of AX of NOT_IMPLEMENTED.
@@ -150,9 +151,10 @@ pub extern "C" fn update_store_read_indexed(
         (now (destination .entry)) ⌝ }
 {
     let x = board_index_words::index_from(index);
-    let a = call_indexed::read::read_indexed(store, x, block, destination);
-    board_call_words::call_words(a, false, answer);
-    board_call_words::ax(a)
+    let plan = call_indexed::read::indexed_plan(store, x, block, destination.len());
+    read::copy_planned(store, block, destination, plan);
+    board_index_words::plan_words(plan, answer);
+    board_index_words::plan_ax(plan)
 }
 
 // The load choice through an index.

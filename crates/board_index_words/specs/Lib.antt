@@ -2,3 +2,4 @@
 pub mod IndexWords
 pub mod IndexAnswerWords
 pub mod IndexWordLaws
+pub mod PlanWordLaws

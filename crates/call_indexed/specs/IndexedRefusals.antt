@@ -1,5 +1,5 @@
 -- What a read through an index leaves alone.
---   indexed-coded       the answer's codes are right
+--   indexed-plan-coded, indexed-coded     the plan refuses with a code; the answer's codes are right
 --   indexed-refused     a refused read changes no byte of the destination
 --   indexed-long        the destination keeps its length
 use Prim.Native.Nat.{ℕ}
@@ -23,7 +23,7 @@ use Rattle.call_indexed.specs.IndexedRead.{indexedPlan, indexedAnswer, i
 use Rattle.call_indexed.specs.IndexedReadLaws.{plan-own, foreign-plan, indexed-copyable}
 
 module _ (s : List ℕ) (x : Index) (b : ℕ) where
-  indexed-plan-coded : (m : ℕ) → coded (indexedPlan s x b m) ≡ true
+  pub indexed-plan-coded : (m : ℕ) → coded (indexedPlan s x b m) ≡ true
   unfolding coded
   indexed-plan-coded m = go (sameIndex x (indexOf s)) refl
     where

@@ -29,7 +29,7 @@ fn line_plan(kind: u32, size: u32, lent: usize) -> ReadPlan
 }
 
 // The checks in their order. The store is read once; then its own index decides.
-fn indexed_plan(store: &[u8], x: Index, block: u32, lent: usize) -> ReadPlan
+pub fn indexed_plan(store: &[u8], x: Index, block: u32, lent: usize) -> ReadPlan
     ensures { λ r. ⌜ r ≡ indexedPlan (now (store .entry)) x block lent ⌝ }
 {
     let d = store_directory::read_store(store);

@@ -1,31 +1,48 @@
--- `board::update_store_read_indexed` meets its contract: the read through the index of the words, laid out.
+-- `board::update_store_read_indexed` meets its contract: the plan by the index of the words, carried out and laid out.
 use mathlib.Core.Path.{ap, _∙_}
 use mathlib.Core.Bool.{false}
 use lib.ListN.{length}
-use Rattle.call_answers.specs.declared.answer.Answer.{Answer}
-use Rattle.call_indexed.specs.IndexedRefusals.{indexed-coded, indexed-long}
+use Rattle.call_reads.specs.Read.{answered, copied}
+use Rattle.call_reads.specs.ReadLaws.{copied-long}
+use Rattle.call_reads.specs.declared.read.ReadPlan.{ReadPlan}
+use Rattle.call_indexed.specs.IndexedRead.{indexedAnswer, indexedBytes}
+use Rattle.call_indexed.specs.IndexedReadLaws.{indexed-copyable}
+use Rattle.call_indexed.specs.IndexedRefusals.{indexed-plan-coded}
 use Rattle.board_call_words.specs.Words.{axOf, answerWords}
 use Rattle.board.proofs.update_store_read_indexed.Statement.{statement}
 use Rattle.board.proofs.update_store_read_indexed.Tie as tie
 
-call-words-requires : tie.Need-call-words-requires
-call-words-requires c κs = rw (c .before .before .before .read-indexed .ensures .0) (indexed-coded _ _ _ _)
+copy-planned-requires : tie.Need-copy-planned-requires
+copy-planned-requires c κs = indexed-copyable _ _ _ _ _ (c .before .indexed-plan .ensures)
 
-ax-requires : tie.Need-ax-requires
-ax-requires c κs = rw (c .before .before .before .before .read-indexed .ensures .0) (indexed-coded _ _ _ _)
+plan-words-requires : tie.Need-plan-words-requires
+plan-words-requires c κs =
+    let p = c .before .before .before .before .before in
+    rw (p .indexed-plan .ensures) (indexed-plan-coded _ _ _ _)
 
 same-length : tie.Need-same-length
-same-length c = ap length (c .before .before .before .before .before .read-indexed .ensures .1) ∙ indexed-long _ _ _ _
+same-length c =
+    let d = c .before .before .before .before .before in
+    ap length (d .copy-planned .ensures .1) ∙ copied-long _ _ _ _ (indexed-copyable _ _ _ _ _ (d .before .before .indexed-plan .ensures))
 
 returns : tie.Need-returns
+unfolding indexedAnswer indexedBytes
 returns c =
-    let r = c .before .before .before .before .before in
-    let f = r .before .before .index-from .ensures in
-    let e = rw f at (r .read-indexed .ensures .0) in (
-      c .ax .ensures ∙ ap axOf e,
-      (c .before .call-words .ensures ∙ ap (λ (a : Answer). answerWords a false) e, rw f at (r .read-indexed .ensures .1)),
+    let d = c .before .before .before .before .before in
+    let p = d .before .before in
+    let e = rw (p .before .index-from .ensures) at (p .indexed-plan .ensures) in (
+      c .plan-ax .ensures ∙ ap (λ (q : ReadPlan). axOf (answered q)) e,
+      (c .before .plan-words .ensures ∙ ap (λ (q : ReadPlan). answerWords (answered q) false) e, d .copy-planned .ensures .1 ∙ ap (copied _ _ _) e),
     )
 
 pub update-store-read-indexed-spec : {M : Type 1} → statement M
 update-store-read-indexed-spec =
-    tie.close (tie.spec (λ c κs. tt) (λ c κs. tt) call-words-requires ax-requires same-length returns)
+    tie.close
+    (tie.spec
+    (λ c κs. tt)
+    (λ c κs. tt)
+    copy-planned-requires
+    plan-words-requires
+    (λ c κs. tt)
+    same-length
+    returns)
