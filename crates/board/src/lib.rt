@@ -6,13 +6,17 @@ ghost use Rattle.board_call_words.specs.Words.{axOf, answerWords, callWords};
 ghost use Rattle.board_load_words.specs.LoadWords.{loadAx, loadWords};
 ghost use lib.ListN.{length};
 ghost use mathlib.Core.Bool.{false};
+ghost use Rattle.store_directory.specs.Scan.{storeOk};
+ghost use Rattle.store_index.specs.Index.{indexOf};
 ghost use Rattle.store_index.specs.IndexAfter.{indexAfter};
-ghost use Rattle.call_indexed.specs.IndexCall.{indexReply};
+ghost use Rattle.store_index.specs.IndexColumns.{columnsOf, indexIn};
+ghost use Rattle.call_indexed.specs.IndexCall.{indexCodes};
 ghost use Rattle.call_indexed.specs.IndexedRead.{indexedAnswer, indexedBytes};
 ghost use Rattle.load_indexed.specs.IndexedLoad.{indexedChoice};
-ghost use Rattle.board_index_words.specs.IndexWords.{indexWords, wordsIndex};
-ghost use Rattle.board_index_words.specs.IndexAnswerWords.{replyWords, replyAx, carriedWords};
+ghost use Rattle.board_index_words.specs.IndexAnswerWords.{codesWords, codesAx, carriedWords};
 use call_reads::read;
+use store_blocks::MOST_BLOCKS;
+use store_index::COLUMNS;
 use store_index::after;
 
 // The image of AX of NOT_IMPLEMENTED.
@@ -91,45 +95,40 @@ pub extern "C" fn update_store_load(
     board_load_words::load_ax(choice)
 }
 
-// The index of a store, all unused for a bad one.
+// The index of a store, all unused for a bad one. An index is lent as four columns of 32 numbers, in C as 128 words.
 #[no_mangle]
 pub extern "C" fn update_store_index(
     store: &[u8],
-    index: &mut [u32; 128],
+    index: &mut [[u32; MOST_BLOCKS]; COLUMNS],
     answer: &mut [u32; 16],
 ) -> u32
-    ensures result { λ r. ⌜ r ≡ replyAx (indexReply (now (store .entry))) ⌝ }
-    ensures makes { λ r. ⌜ now (index .exit) ≡ indexWords (indexReply (now (store .entry)) .index) ⌝ }
-    ensures answers { λ r. ⌜ now (answer .exit) ≡ replyWords (indexReply (now (store .entry))) ⌝ }
+    ensures result { λ r. ⌜ r ≡ codesAx (indexCodes (storeOk (now (store .entry)))) ⌝ }
+    ensures makes { λ r. ⌜ now (index .exit) ≡ columnsOf (indexOf (now (store .entry))) ⌝ }
+    ensures answers { λ r. ⌜ now (answer .exit) ≡ codesWords (indexCodes (storeOk (now (store .entry)))) ⌝ }
 {
-    let reply = call_indexed::index::index(store);
-    let x = reply.index;
-    board_index_words::put_index(index, x);
-    let case = board_index_words::index_case(reply.ah);
-    board_row::put(answer, reply.ah, reply.al, 0, case, 0, 0, 0, 0);
-    reply.ah as u32 * 256 + reply.al as u32
+    let codes = call_indexed::index::put_index(store, index);
+    let case = board_index_words::index_case(codes.ah);
+    board_row::put(answer, codes.ah, codes.al, 0, case, 0, 0, 0, 0);
+    codes.ah as u32 * 256 + codes.al as u32
 }
 
 // The index after an accepted write. It is never refused.
 #[no_mangle]
 pub extern "C" fn update_store_index_after(
-    old: &[u32; 128],
+    old: &[[u32; MOST_BLOCKS]; COLUMNS],
     emptied: u32,
     start: u32,
     revision: u32,
     size: u32,
-    new_index: &mut [u32; 128],
+    new_index: &mut [[u32; MOST_BLOCKS]; COLUMNS],
     answer: &mut [u32; 16],
 ) -> u32
     ensures result { λ r. ⌜ r ≡ 0 ⌝ }
-    ensures makes { λ r. ⌜ now («new_index» .exit) ≡ indexWords (indexAfter (wordsIndex (now (old .entry))) emptied start revision size) ⌝ }
+    ensures makes { λ r. ⌜ now («new_index» .exit) ≡ columnsOf (indexAfter (indexIn (now (old .entry))) emptied start revision size) ⌝ }
     ensures answers { λ r. ⌜ now (answer .exit) ≡ carriedWords ⌝ }
 {
-    let x = board_index_words::index_from(old);
-    board_index_words::put_index(
-        new_index,
-        after::index_after(x, emptied, start, revision, size),
-    );
+    *new_index = *old;
+    after::carry(new_index, emptied, start, revision, size);
     *answer = [0; 16];
     0
 }
@@ -137,21 +136,20 @@ pub extern "C" fn update_store_index_after(
 // A read through an index.
 #[no_mangle]
 pub extern "C" fn update_store_read_indexed(
-    index: &[u32; 128],
+    index: &[[u32; MOST_BLOCKS]; COLUMNS],
     block: u32,
     store: &[u8],
     destination: &mut [u8],
     answer: &mut [u32; 16],
 ) -> u32
-    ensures result { λ r. ⌜ r ≡ axOf (indexedAnswer (now (store .entry)) (wordsIndex (now (index .entry))) block
+    ensures result { λ r. ⌜ r ≡ axOf (indexedAnswer (now (store .entry)) (indexIn (now (index .entry))) block
         (length (now (destination .entry)))) ⌝ }
-    ensures answers { λ r. ⌜ now (answer .exit) ≡ answerWords (indexedAnswer (now (store .entry)) (wordsIndex (now (index .entry)))
+    ensures answers { λ r. ⌜ now (answer .exit) ≡ answerWords (indexedAnswer (now (store .entry)) (indexIn (now (index .entry)))
         block (length (now (destination .entry)))) false ⌝ }
-    ensures copies { λ r. ⌜ now (destination .exit) ≡ indexedBytes (now (store .entry)) (wordsIndex (now (index .entry))) block
+    ensures copies { λ r. ⌜ now (destination .exit) ≡ indexedBytes (now (store .entry)) (indexIn (now (index .entry))) block
         (now (destination .entry)) ⌝ }
 {
-    let x = board_index_words::index_from(index);
-    let plan = call_indexed::read::indexed_plan(store, x, block, destination.len());
+    let plan = call_indexed::read::indexed_plan(store, index, block, destination.len());
     read::copy_planned(store, block, destination, plan);
     board_index_words::plan_words(plan, answer);
     board_index_words::plan_ax(plan)
@@ -161,18 +159,17 @@ pub extern "C" fn update_store_read_indexed(
 #[no_mangle]
 pub extern "C" fn update_store_load_indexed(
     loading: bool,
-    index: &[u32; 128],
+    index: &[[u32; MOST_BLOCKS]; COLUMNS],
     store: &[u8],
     signature: u32,
     platform: u32,
     answer: &mut [u32; 16],
 ) -> u32
-    ensures result { λ r. ⌜ r ≡ loadAx (indexedChoice loading (now (store .entry)) (wordsIndex (now (index .entry))) signature platform) ⌝ }
+    ensures result { λ r. ⌜ r ≡ loadAx (indexedChoice loading (now (store .entry)) (indexIn (now (index .entry))) signature platform) ⌝ }
     ensures answers { λ r. ⌜ now (answer .exit) ≡ loadWords loading (now (store .entry)) (indexedChoice loading
-        (now (store .entry)) (wordsIndex (now (index .entry))) signature platform) ⌝ }
+        (now (store .entry)) (indexIn (now (index .entry))) signature platform) ⌝ }
 {
-    let x = board_index_words::index_from(index);
-    let choice = load_indexed::choose(loading, store, x, signature, platform);
+    let choice = load_indexed::choose_by(loading, store, index, signature, platform);
     board_load_words::load_words(choice, loading, store, answer);
     board_load_words::load_ax(choice)
 }

@@ -1,5 +1,4 @@
--- An index in words, and the answer words of the index functions: definitions, then laws.
-pub mod IndexWords
+-- The answer words of the index functions: definitions, then laws.
 pub mod IndexAnswerWords
-pub mod IndexWordLaws
+pub mod IndexAnswerLaws
 pub mod PlanWordLaws

@@ -3,11 +3,13 @@
 --   count-mono, count-cong   who passes one test passes the other; the two tests are the same
 --   count-most, count-up     no more pass than there are, and no fewer below a greater bound
 --   count-zero               where none is counted, none passes
+--   count-gap, count-run     a bound raised over numbers none of which passes, and all of which do
+--   count-full               who passes one test passes the other, and as many pass both: the tests are the same
 --   either, second           to pass one of two tests, and to pass the second alone
 --   count-split              those that pass one of two: those that pass the first, and those that pass the second alone
 --   counting                 a loop that counts, as `search` takes it
-use Prim.Native.Nat.{ℕ, zero, suc, _+_, _<_, _≤_}
-use mathlib.Core.Path.{_≡_, refl}
+use Prim.Native.Nat.{ℕ, zero, suc, _+_, _-_, _<_, _≤_}
+use mathlib.Core.Path.{_≡_, refl, sym}
 use mathlib.Core.Bool.{Bool, true, false, cond, not, _&&_, _||_}
 use mathlib.Core.Logic.{⊎-elim}
 use native.Mathlib.Nat.{eq-or-lt-of-le, le-of-suc-le-suc}
@@ -63,6 +65,38 @@ count-zero p (suc n) k h l =
     let z = one-zero (p n) (countBelow n p) h in
     ⊎-elim (λ (q : k ≡ n). rw q (z .0))
     (λ (q : k < n). count-zero p n k (z .1) q)
+    (eq-or-lt-of-le (le-of-suc-le-suc l))
+
+module _ (p : ℕ → Bool) (m : ℕ) where
+  pub count-run : (k : ℕ) → ((j : ℕ) → m ≤ j → j < m + k → p j ≡ true) → countBelow (m + k) p ≡ countBelow m p + k
+  unfolding countBelow
+  count-run zero h = let e : m + 0 ≡ m = omega arith in rw e (omega arith)
+  count-run (suc k) h =
+      let e : m + suc k ≡ suc (m + k) = omega arith in
+      rw (e, h (m + k) (omega arith) (omega arith)) (omega (arith, count-run k (λ j l u. h j l (omega arith))))
+
+  gap-from : (k : ℕ) → ((j : ℕ) → m ≤ j → j < m + k → p j ≡ false) → countBelow (m + k) p ≡ countBelow m p
+  unfolding countBelow
+  gap-from zero h = let e : m + 0 ≡ m = omega arith in rw e
+  gap-from (suc k) h =
+      let e : m + suc k ≡ suc (m + k) = omega arith in
+      rw (e, h (m + k) (omega arith) (omega arith)) (gap-from k (λ j l u. h j l (omega arith)))
+
+  pub count-gap : (n : ℕ) → m ≤ n → ((j : ℕ) → m ≤ j → j < n → p j ≡ false) → countBelow n p ≡ countBelow m p
+  count-gap n l h = let e : m + (n - m) ≡ n = omega arith in rw e at (gap-from (n - m) (λ j a b. h j a (omega arith)))
+
+one-full : (a b : Bool) (m n : ℕ) → (a ≡ true → b ≡ true) → m ≤ n → cond a (m + 1) m ≡ cond b (n + 1) n → (a ≡ b) × (m ≡ n)
+one-full true b m n f l e = let q = f refl in (sym q, omega (arith, rw q at e))
+one-full false true m n f l e = absurd (omega arith)
+one-full false false m n f l e = (refl, e)
+
+pub count-full : (p q : ℕ → Bool) (n : ℕ) → ((j : ℕ) → j < n → p j ≡ true → q j ≡ true) → countBelow n p ≡ countBelow n q → (k : ℕ) → k < n → p k ≡ q k
+unfolding countBelow
+count-full p q zero h e k l = absurd (omega arith)
+count-full p q (suc n) h e k l =
+    let w = one-full (p n) (q n) (countBelow n p) (countBelow n q) (h n (omega arith)) (count-mono p q n (λ j m. h j (omega arith))) e in
+    ⊎-elim (λ (r : k ≡ n). rw r (w .0))
+    (λ (r : k < n). count-full p q n (λ j m. h j (omega arith)) (w .1) k r)
     (eq-or-lt-of-le (le-of-suc-le-suc l))
 
 -- a number passes p or q

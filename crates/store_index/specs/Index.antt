@@ -9,7 +9,6 @@
 --   lineIn                  the same, and an unused line behind N
 --   lineOf                  line b of an index
 --   kindOf .. sizeOf        the four columns of 32 lines
---   columns                 the index of four columns
 --   indexBy                 the index of 32 lines
 --   allUnused               the index of a bad store
 --   indexOf                 the index of a store
@@ -64,9 +63,6 @@ lineIn s b = unless (ltb b (blockCount s)) unusedLine (lineAt s b)
 
 unfoldable pub lineOf : Index → ℕ → Line
 lineOf x b = record { kind = getD (x .kinds) b 0; start = getD (x .starts) b 0; revision = getD (x .revisions) b 0; size = getD (x .sizes) b 0 }
-
-abbrev pub columns : List ℕ → List ℕ → List ℕ → List ℕ → Index
-columns kinds starts revisions sizes = record { kinds = kinds; starts = starts; revisions = revisions; sizes = sizes }
 
 abbrev pub kindOf : (ℕ → Line) → ℕ → ℕ
 kindOf f b = f b .kind

@@ -1,14 +1,14 @@
-// The index of a store: for each of up to 32 blocks what it is, and of which update.
+// The index of a store: for each of up to 32 blocks what it is, and of which update. By value it is a struct of four arrays; where it is lent,
+// the four arrays stand one behind the other.
 pub mod after;
 mod lines;
 pub mod own;
 
 ghost use mathlib.Core.Path.{_≡_};
-ghost use mathlib.Core.Bool.{true};
-ghost use Rattle.store_directory.specs.Scan.{directory};
-ghost use Rattle.store_index.specs.Index.{allUnused, indexOf};
+ghost use Rattle.store_directory.specs.Scan.{storeOk};
+ghost use Rattle.store_index.specs.Index.{indexOf};
+ghost use Rattle.store_index.specs.IndexColumns.{columnsOf, indexIn};
 use store_blocks::MOST_BLOCKS;
-use store_directory::Directory;
 use update_header::fields;
 
 // The kinds of a block.
@@ -17,6 +17,17 @@ pub const UNUSED: u32 = 0;
 pub const FIRST: u32 = 1;
 // A later block of an update.
 pub const LATER: u32 = 2;
+
+// The columns of an index, in the order in which they are lent.
+pub const KINDS: usize = 0;
+
+pub const STARTS: usize = 1;
+
+pub const REVISIONS: usize = 2;
+
+pub const SIZES: usize = 3;
+
+pub const COLUMNS: usize = 4;
 
 // What the index says of one block: its kind; of a block of an update its first block, its revision and its size in blocks.
 pub struct Line {
@@ -33,37 +44,48 @@ pub struct Index {
     pub sizes: [u32; MOST_BLOCKS],
 }
 
-// The index of a bad store.
-pub fn all_unused() -> Index
-    ensures { λ r. ⌜ r ≡ allUnused ⌝ }
+// The columns of an index, to be lent.
+pub fn columns_of(x: Index) -> [[u32; MOST_BLOCKS]; COLUMNS]
+    ensures { λ r. ⌜ r ≡ columnsOf x ⌝ }
 {
+    let kinds = x.kinds;
+    let starts = x.starts;
+    let revisions = x.revisions;
+    let sizes = x.sizes;
+    [kinds, starts, revisions, sizes]
+}
+
+// The index that columns hold.
+pub fn index_in(columns: &[[u32; MOST_BLOCKS]; COLUMNS]) -> Index
+    ensures { λ r. ⌜ r ≡ indexIn (now (columns .entry)) ⌝ }
+{
+    let kinds = columns[KINDS];
+    let starts = columns[STARTS];
+    let revisions = columns[REVISIONS];
+    let sizes = columns[SIZES];
     Index {
-        kinds: [UNUSED; MOST_BLOCKS],
-        starts: [0; MOST_BLOCKS],
-        revisions: [0; MOST_BLOCKS],
-        sizes: [0; MOST_BLOCKS],
+        kinds,
+        starts,
+        revisions,
+        sizes,
     }
 }
 
-// The index of a valid store, by its directory. Of each update the revision is read, and nothing is judged again.
-pub fn index_of(store: &[u8], d: Directory) -> Index
-    requires { ⌜ (d ≡ directory (now store)) × (d .ok ≡ true) ⌝ }
-    ensures { λ r. ⌜ r ≡ indexOf (now (store .entry)) ⌝ }
+// Writes the index of a store, and answers whether the store is valid: of a bad one all lines are unused. The store is read once; then of
+// each update the revision is read, and nothing is judged again.
+pub fn put_index(store: &[u8], columns: &mut [[u32; MOST_BLOCKS]; COLUMNS]) -> bool
+    ensures valid { λ r. ⌜ r ≡ storeOk (now (store .entry)) ⌝ }
+    ensures makes { λ _. ⌜ now (columns .exit) ≡ columnsOf (indexOf (now (store .entry))) ⌝ }
 {
-    let mut kinds = [UNUSED; MOST_BLOCKS];
-    let mut starts = [0u32; MOST_BLOCKS];
-    let mut revisions = [0u32; MOST_BLOCKS];
-    let mut sizes = [0u32; MOST_BLOCKS];
+    let d = store_directory::read_store(store);
+    *columns = [[UNUSED; MOST_BLOCKS]; COLUMNS];
     let mut i: usize = 0;
     while i < d.count {
         let start = bytes_dwords::wide(d.starts[i]);
         let size = bytes_dwords::wide(d.sizes[i]);
         let revision = fields::revision(store_blocks::from_block(store, start));
         lines::put_lines(
-            &mut kinds,
-            &mut starts,
-            &mut revisions,
-            &mut sizes,
+            columns,
             start,
             revision,
             size,
@@ -71,10 +93,5 @@ pub fn index_of(store: &[u8], d: Directory) -> Index
         );
         i += 1;
     }
-    Index {
-        kinds,
-        starts,
-        revisions,
-        sizes,
-    }
+    d.ok
 }

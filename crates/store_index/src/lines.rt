@@ -1,9 +1,15 @@
-// The lines of one update.
+// Lines written into lent columns.
 ghost use mathlib.Core.Path.{_≡_};
-ghost use Prim.Native.Nat.{_≤_};
-ghost use Rattle.store_index.specs.UpdateLines.{Columns, Spread, kindFrom, always};
+ghost use Prim.Native.Nat.{_<_, _≤_};
+ghost use lib.ListN.{length};
+ghost use Rattle.store_index.specs.UpdateLines.{Columns, kindFrom, line, LinePut, LinesPut};
+use crate::COLUMNS;
 use crate::FIRST;
+use crate::KINDS;
 use crate::LATER;
+use crate::REVISIONS;
+use crate::SIZES;
+use crate::STARTS;
 use store_blocks::MOST_BLOCKS;
 
 // The kind of block `b` of an update.
@@ -13,29 +19,61 @@ pub fn kind_from(start: u32, b: u32) -> u32
     if start == b { FIRST } else { LATER }
 }
 
+// Writes line `b`. The others stay.
+pub fn put_line(
+    columns: &mut [[u32; MOST_BLOCKS]; COLUMNS],
+    b: usize,
+    kind: u32,
+    start: u32,
+    revision: u32,
+    size: u32,
+)
+    requires { ⌜ (b < 32) × Columns (now columns) ⌝ }
+    ensures { λ _. ⌜ LinePut b (line kind start revision size) (now (columns .entry)) (now (columns .exit)) ⌝ }
+{
+    columns[KINDS][b] = kind;
+    columns[STARTS][b] = start;
+    columns[REVISIONS][b] = revision;
+    columns[SIZES][b] = size;
+}
+
 // Writes the lines of an update of `size` blocks from `start` on, up to block `end`. The others stay.
 pub fn put_lines(
-    kinds: &mut [u32; MOST_BLOCKS],
-    starts: &mut [u32; MOST_BLOCKS],
-    revisions: &mut [u32; MOST_BLOCKS],
-    sizes: &mut [u32; MOST_BLOCKS],
+    columns: &mut [[u32; MOST_BLOCKS]; COLUMNS],
     start: u32,
     revision: u32,
     size: u32,
     end: usize,
 )
-    requires { ⌜ (start ≤ end) × (end ≤ 32) × Columns (now kinds) (now starts) (now revisions) (now sizes) ⌝ }
-    ensures kinds { λ _. ⌜ Spread (kindFrom start) start end (now (kinds .entry)) (now (kinds .exit)) ⌝ }
-    ensures starts { λ _. ⌜ Spread (always start) start end (now (starts .entry)) (now (starts .exit)) ⌝ }
-    ensures revisions { λ _. ⌜ Spread (always revision) start end (now (revisions .entry)) (now (revisions .exit)) ⌝ }
-    ensures sizes { λ _. ⌜ Spread (always size) start end (now (sizes .entry)) (now (sizes .exit)) ⌝ }
+    requires { ⌜ (start ≤ end) × (end ≤ 32) × Columns (now columns) ⌝ }
+    ensures { λ _. ⌜ LinesPut start revision size end (now (columns .entry)) (now (columns .exit)) ⌝ }
 {
     let mut b = start as usize;
     while b < end {
-        kinds[b] = kind_from(start, b as u32);
-        starts[b] = start;
-        revisions[b] = revision;
-        sizes[b] = size;
+        let kind = kind_from(start, b as u32);
+        put_line(columns, b, kind, start, revision, size);
         b += 1;
     }
+}
+
+// Says how long a column is, and how many there are: a lent array's length isn't told otherwise.
+fn places(column: &[u32])
+    requires { ⌜ length (now column) ≡ 32 ⌝ }
+    ensures { λ _. ⌜ length (now (column .entry)) ≡ 32 ⌝ }
+{}
+
+fn count(columns: &[[u32; MOST_BLOCKS]])
+    requires { ⌜ length (now columns) ≡ 4 ⌝ }
+    ensures { λ _. ⌜ length (now (columns .entry)) ≡ 4 ⌝ }
+{}
+
+// Lent columns are four of 32 places. There is nothing to do for that.
+pub fn lengths(columns: &[[u32; MOST_BLOCKS]; COLUMNS])
+    ensures { λ _. ⌜ Columns (now (columns .entry)) ⌝ }
+{
+    count(columns);
+    places(&columns[KINDS]);
+    places(&columns[STARTS]);
+    places(&columns[REVISIONS]);
+    places(&columns[SIZES]);
 }

@@ -1,103 +1,90 @@
-// Whether an index is the store's own. Its lines are held against the directory, so no other index is made for that. The differences are
-// gathered, which is quicker than to leave at the first.
+// Whether an index is the store's own: the lines of each stored update are right, and no more lines are used than these. The differences are
+// gathered, which is quicker than to leave at the first, and the used lines are counted before the directory is looked at, since its bytes
+// have only just been written.
 ghost use mathlib.Core.Path.{_≡_};
-ghost use mathlib.Core.Bool.{true};
 ghost use Prim.Native.Nat.{_+_, _≤_};
+ghost use Rattle.laws.specs.Count.{countBelow};
 ghost use Rattle.store_directory.specs.Scan.{directory};
-ghost use Rattle.store_index.specs.Index.{indexOf, columns};
+ghost use Rattle.store_index.specs.Index.{indexOf};
+ghost use Rattle.store_index.specs.IndexColumns.{indexIn};
 ghost use Rattle.store_index.specs.SameIndex.{sameIndex};
-ghost use Rattle.store_index.specs.OwnLines.{Gathered, UnusedFrom, UpdateFrom};
+ghost use Rattle.store_index.specs.OwnLines.{validDirectory, usedIn, Gathered, UpdateFrom};
+use crate::COLUMNS;
+use crate::KINDS;
+use crate::REVISIONS;
+use crate::SIZES;
+use crate::STARTS;
 use crate::lines;
 use store_blocks::MOST_BLOCKS;
-use store_directory::Directory;
 use update_header::fields;
 
-// Gathers the numbers of the lines from `from` to below `end`: unused ones have none.
-fn unused_lines<'a>(
-    kinds: &'a [u32; MOST_BLOCKS],
-    starts: &'a [u32; MOST_BLOCKS],
-    revisions: &'a [u32; MOST_BLOCKS],
-    sizes: &'a [u32; MOST_BLOCKS],
-    differs: u32,
-    from: usize,
-    end: usize,
-) -> u32
-    requires { ⌜ (from ≤ end) × (end ≤ 32) ⌝ }
-    ensures { λ r. ⌜ Gathered r differs (UnusedFrom (columns (now (kinds .entry)) (now (starts .entry)) (now (revisions .entry))
-        (now (sizes .entry))) from end) ⌝ }
+// How many lines are used: some number of theirs isn't 0.
+fn used_lines(columns: &[[u32; MOST_BLOCKS]; COLUMNS]) -> u32
+    ensures { λ r. ⌜ r ≡ countBelow 32 (usedIn (indexIn (now (columns .entry)))) ⌝ }
 {
-    let mut all = differs;
-    let mut b = from;
-    while b < end {
-        all = all | kinds[b];
-        all = all | starts[b];
-        all = all | revisions[b];
-        all = all | sizes[b];
-        b += 1;
+    let mut used: u32 = 0;
+    let mut b: usize = 0;
+    while b < MOST_BLOCKS {
+        let all = columns[KINDS][b]
+            | columns[STARTS][b]
+            | columns[REVISIONS][b]
+            | columns[SIZES][b];
+        if all == 0 {
+            b += 1;
+        } else {
+            used += 1;
+            b += 1;
+        }
     }
-    all
+    used
 }
 
 // Gathers where the lines of an update differ from what they should be.
-fn update_lines<'a>(
-    kinds: &'a [u32; MOST_BLOCKS],
-    starts: &'a [u32; MOST_BLOCKS],
-    revisions: &'a [u32; MOST_BLOCKS],
-    sizes: &'a [u32; MOST_BLOCKS],
+fn update_lines(
+    columns: &[[u32; MOST_BLOCKS]; COLUMNS],
     differs: u32,
     start: u32,
     revision: u32,
     size: u32,
 ) -> u32
     requires { ⌜ start + size ≤ 32 ⌝ }
-    ensures { λ r. ⌜ Gathered r differs (UpdateFrom (columns (now (kinds .entry)) (now (starts .entry)) (now (revisions .entry))
-        (now (sizes .entry))) start revision size (start + size)) ⌝ }
+    ensures { λ r. ⌜ Gathered r differs (UpdateFrom (indexIn (now (columns .entry))) start revision size (start + size)) ⌝ }
 {
     let end = start as usize + size as usize;
     let mut all = differs;
     let mut b = start as usize;
     while b < end {
-        all = all | (kinds[b] ^ lines::kind_from(start, b as u32));
-        all = all | (starts[b] ^ start);
-        all = all | (revisions[b] ^ revision);
-        all = all | (sizes[b] ^ size);
+        all = all | (columns[KINDS][b] ^ lines::kind_from(start, b as u32));
+        all = all | (columns[STARTS][b] ^ start);
+        all = all | (columns[REVISIONS][b] ^ revision);
+        all = all | (columns[SIZES][b] ^ size);
         b += 1;
     }
     all
 }
 
-// Is the index, lent by its columns, that of the store whose directory `d` is?
+// Is the lent index that of the valid store whose directory has these entries? They are lent one by one, since a directory by value is copied.
 pub fn is_own<'a>(
     store: &[u8],
-    d: Directory,
-    kinds: &'a [u32; MOST_BLOCKS],
-    starts: &'a [u32; MOST_BLOCKS],
-    revisions: &'a [u32; MOST_BLOCKS],
-    sizes: &'a [u32; MOST_BLOCKS],
+    count: usize,
+    starts: &'a [u8; MOST_BLOCKS],
+    sizes: &'a [u8; MOST_BLOCKS],
+    columns: &[[u32; MOST_BLOCKS]; COLUMNS],
 ) -> bool
-    requires { ⌜ (d ≡ directory (now store)) × (d .ok ≡ true) ⌝ }
-    ensures { λ r. ⌜ r ≡ sameIndex (columns (now (kinds .entry)) (now (starts .entry)) (now (revisions .entry)) (now (sizes .entry)))
-        (indexOf (now (store .entry))) ⌝ }
+    requires { ⌜ validDirectory count (now starts) (now sizes) ≡ directory (now store) ⌝ }
+    ensures { λ r. ⌜ r ≡ sameIndex (indexIn (now (columns .entry))) (indexOf (now (store .entry))) ⌝ }
 {
+    let used = used_lines(columns);
     let mut differs: u32 = 0;
-    let mut next: usize = 0;
+    let mut blocks: u32 = 0;
     let mut i: usize = 0;
-    while i < d.count {
-        let start = bytes_dwords::wide(d.starts[i]);
-        let size = bytes_dwords::wide(d.sizes[i]);
+    while i < count {
+        let start = bytes_dwords::wide(starts[i]);
+        let size = bytes_dwords::wide(sizes[i]);
         let revision = fields::revision(store_blocks::from_block(store, start));
-        let gap = unused_lines(
-            kinds,
-            starts,
-            revisions,
-            sizes,
-            differs,
-            next,
-            start as usize,
-        );
-        differs = update_lines(kinds, starts, revisions, sizes, gap, start, revision, size);
-        next = start as usize + size as usize;
+        differs = update_lines(columns, differs, start, revision, size);
+        blocks += size;
         i += 1;
     }
-    unused_lines(kinds, starts, revisions, sizes, differs, next, MOST_BLOCKS) == 0
+    differs | (used ^ blocks) == 0
 }

@@ -5,11 +5,11 @@ use Prim.Native.Nat.{ℕ}
 use mathlib.Core.Bool.{Bool}
 use mathlib.Core.List.{List}
 use lib.Dec.{eqb}
-use lib.ListN.{getD}
 use Rattle.laws.specs.Below.{allBelow}
+use Rattle.store_index.specs.IndexColumns.{wordAt}
 
-unfoldable pub sameAt : List ℕ → List ℕ → ℕ → Bool
-sameAt x y i = eqb (getD x i 0) (getD y i 0)
+unfoldable pub sameAt : List (List ℕ) → List (List ℕ) → ℕ → Bool
+sameAt x y i = eqb (wordAt x i) (wordAt y i)
 
-unfoldable pub sameNumbers : List ℕ → List ℕ → Bool
+unfoldable pub sameNumbers : List (List ℕ) → List (List ℕ) → Bool
 sameNumbers x y = allBelow 128 (sameAt x y)

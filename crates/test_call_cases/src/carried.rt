@@ -7,15 +7,17 @@ use crate::indexes;
 use crate::lines;
 use crate::numbers;
 use crate::numbers::Index;
-use crate::numbers::NUMBERS;
 use crate::writes;
+use store_blocks::MOST_BLOCKS;
+use store_index::COLUMNS;
+use store_index::KINDS;
 use test_samples::bytes;
 use test_samples::make;
 use test_samples::stores;
 
 // The index after a write of a candidate with revision 9.
 fn after(label: &[u8], old: &Index, emptied: u32, start: u32, size: u32) {
-    let mut new_index = [0xA5A5A5A5u32; NUMBERS];
+    let mut new_index = [[0xA5A5A5A5u32; MOST_BLOCKS]; COLUMNS];
     let mut answer = [0xA5A5A5A5u32; 16];
     let ax = board::update_store_index_after(
         old,
@@ -56,7 +58,7 @@ fn edges() {
     stores::four_blocks(store);
     put_update(store, 61440, 6, 0x683, 0x81, 3024, 3072);
     indexes::made(b"index of 32 blocks: ", store);
-    let mut old = [0u32; NUMBERS];
+    let mut old = [[0u32; MOST_BLOCKS]; COLUMNS];
     let mut answer = [0u32; 16];
     board::update_store_index(store, &mut old, &mut answer);
     after(b"index after: start 32, size 2: ", &old, 0, 32, 2);
@@ -87,7 +89,7 @@ fn edges() {
     );
     after(
         b"index after: emptied 2, start 0, size 1, an old kind 3: ",
-        &numbers::with_number(&old, 5, 3),
+        &numbers::with_number(&old, KINDS, 5, 3),
         2,
         0,
         1,
@@ -99,13 +101,13 @@ fn edges() {
 fn carried(label: &[u8], space: &mut [u8], n: usize, candidate: &[u8], revision: u32, size: u32) {
     if n <= space.len() {
         let store: &mut [u8] = &mut space[0..n];
-        let mut old = [0u32; NUMBERS];
+        let mut old = [[0u32; MOST_BLOCKS]; COLUMNS];
         let mut answer = [0u32; 16];
         board::update_store_index(store, &mut old, &mut answer);
         let signatures = [0x650u32, 0x651];
         let platforms = [1u8, 0];
         let written = writes::write(label, store, &signatures, &platforms, candidate, revision);
-        let mut new_index = [0xA5A5A5A5u32; NUMBERS];
+        let mut new_index = [[0xA5A5A5A5u32; MOST_BLOCKS]; COLUMNS];
         board::update_store_index_after(
             &old,
             written[7],
@@ -116,7 +118,7 @@ fn carried(label: &[u8], space: &mut [u8], n: usize, candidate: &[u8], revision:
             &mut answer,
         );
         lines::index(&new_index);
-        let mut index = [0u32; NUMBERS];
+        let mut index = [[0u32; MOST_BLOCKS]; COLUMNS];
         board::update_store_index(store, &mut index, &mut answer);
         if numbers::same(&new_index, &index) {
             test_output::text(b"  carried: same\n");

@@ -2,9 +2,11 @@
 use crate::lines;
 use crate::numbers;
 use crate::numbers::Index;
-use crate::numbers::NUMBERS;
-use crate::numbers::REVISIONS;
-use crate::numbers::SIZES;
+use store_blocks::MOST_BLOCKS;
+use store_index::COLUMNS;
+use store_index::KINDS;
+use store_index::REVISIONS;
+use store_index::SIZES;
 use test_samples::bytes;
 use test_samples::stores;
 
@@ -55,7 +57,7 @@ fn reads(own: &Index, store: &[u8]) {
 
 // Reads through indexes that differ from the own one in one number, and through that of four blocks.
 fn other_reads(own: &Index, other: &Index, store: &[u8]) {
-    let revision = numbers::with_number(own, REVISIONS + 1, 8);
+    let revision = numbers::with_number(own, REVISIONS, 1, 8);
     read(
         b"indexed read, another revision: ",
         &revision,
@@ -70,9 +72,9 @@ fn other_reads(own: &Index, other: &Index, store: &[u8]) {
         8,
         2048,
     );
-    let behind = numbers::with_number(own, SIZES + 31, 1);
+    let behind = numbers::with_number(own, SIZES, 31, 1);
     read(b"indexed read, a size behind N: ", &behind, store, 1, 2048);
-    let kind = numbers::with_number(own, 0, 3);
+    let kind = numbers::with_number(own, KINDS, 0, 3);
     read(b"indexed read, a kind 3: ", &kind, store, 0, 2048);
     read(
         b"indexed read, another store's index: ",
@@ -96,7 +98,7 @@ fn loads(own: &Index, store: &[u8]) {
         1,
     );
     load(b"indexed load, (650, 8): ", true, own, store, 0x650, 8);
-    let size = numbers::with_number(own, SIZES + 4, 1);
+    let size = numbers::with_number(own, SIZES, 4, 1);
     load(
         b"indexed load, another size: ",
         true,
@@ -125,7 +127,7 @@ fn loads(own: &Index, store: &[u8]) {
 
 // The update in block 3 is cut off. Its index is 128 zeros.
 fn bad_store(own: &Index, store: &[u8]) {
-    let mut zeros = [0xA5A5A5A5u32; NUMBERS];
+    let mut zeros = [[0xA5A5A5A5u32; MOST_BLOCKS]; COLUMNS];
     let mut answer = [0u32; 16];
     board::update_store_index(store, &mut zeros, &mut answer);
     read(b"indexed read, bad store: ", &zeros, store, 0, 2048);
@@ -150,8 +152,8 @@ fn bad_store(own: &Index, store: &[u8]) {
 pub fn run() {
     let mut space = io::large_buffer();
     let store: &mut [u8] = &mut space;
-    let mut other = [0u32; NUMBERS];
-    let mut own = [0u32; NUMBERS];
+    let mut other = [[0u32; MOST_BLOCKS]; COLUMNS];
+    let mut own = [[0u32; MOST_BLOCKS]; COLUMNS];
     let mut answer = [0u32; 16];
     stores::four_blocks(store);
     board::update_store_index(bytes::first(store, 8192), &mut other, &mut answer);

@@ -1,12 +1,13 @@
 // Cases of the index made from a store.
 use crate::lines;
-use crate::numbers::NUMBERS;
+use store_blocks::MOST_BLOCKS;
+use store_index::COLUMNS;
 use test_samples::bytes;
 use test_samples::stores;
 
 // The index of a store.
 pub fn made(label: &[u8], store: &[u8]) {
-    let mut index = [0xA5A5A5A5u32; NUMBERS];
+    let mut index = [[0xA5A5A5A5u32; MOST_BLOCKS]; COLUMNS];
     let mut answer = [0xA5A5A5A5u32; 16];
     let ax = board::update_store_index(store, &mut index, &mut answer);
     lines::answer(label, ax, &answer);

@@ -1,9 +1,10 @@
 // Lines of output.
-use crate::numbers::BLOCKS;
 use crate::numbers::Index;
-use crate::numbers::REVISIONS;
-use crate::numbers::SIZES;
-use crate::numbers::STARTS;
+use store_blocks::MOST_BLOCKS;
+use store_index::KINDS;
+use store_index::REVISIONS;
+use store_index::SIZES;
+use store_index::STARTS;
 
 // A label, the result, and the answer words.
 pub fn answer(label: &[u8], ax: u32, answer: &[u32; 16]) {
@@ -28,13 +29,13 @@ fn line(b: u32, kind: u32, start: u32, revision: u32, size: u32) {
 // The lines of an index.
 pub fn index(x: &Index) {
     let mut b: usize = 0;
-    while b < BLOCKS {
+    while b < MOST_BLOCKS {
         line(
             b as u32,
-            x[b],
-            x[b + STARTS],
-            x[b + REVISIONS],
-            x[b + SIZES],
+            x[KINDS][b],
+            x[STARTS][b],
+            x[REVISIONS][b],
+            x[SIZES][b],
         );
         b += 1;
     }

@@ -10,23 +10,23 @@ use mathlib.Core.List.{List}
 use lib.ListN.{length}
 use Rattle.call_answers.specs.declared.answer.Answer.{Answer}
 use Rattle.call_answers.specs.declared.choice.LoadChoice.{LoadChoice}
+use Rattle.store_index.specs.IndexColumns.{indexIn}
 use Rattle.call_indexed.specs.IndexedRead.{indexedAnswer, indexedBytes}
 use Rattle.load_indexed.specs.IndexedLoad.{indexedChoice}
 use Rattle.board_call_words.specs.Words.{axOf, answerWords}
 use Rattle.board_load_words.specs.LoadWords.{loadAx, loadWords}
-use Rattle.board_index_words.specs.IndexWords.{wordsIndex}
 use Rattle.test_vectors.specs.declared.calls.LoadOperands.{LoadOperands}
 use Rattle.test_vectors.specs.declared.indexed.ReadOperands.{ReadOperands}
 use Rattle.test_vectors.specs.declared.lines.Line.{Line}
 use Rattle.test_vectors.specs.Digest.{digest}
 
-unfoldable pub readAnswer : ReadOperands → List ℕ → List ℕ → List ℕ → Answer
-readAnswer c index store destination = indexedAnswer store (wordsIndex index) (c .block) (length destination)
+unfoldable pub readAnswer : ReadOperands → List (List ℕ) → List ℕ → List ℕ → Answer
+readAnswer c index store destination = indexedAnswer store (indexIn index) (c .block) (length destination)
 
-unfoldable pub readDestination : ReadOperands → List ℕ → List ℕ → List ℕ → List ℕ
-readDestination c index store destination = indexedBytes store (wordsIndex index) (c .block) destination
+unfoldable pub readDestination : ReadOperands → List (List ℕ) → List ℕ → List ℕ → List ℕ
+readDestination c index store destination = indexedBytes store (indexIn index) (c .block) destination
 
-unfoldable pub readLine : ReadOperands → List ℕ → List ℕ → List ℕ → Line
+unfoldable pub readLine : ReadOperands → List (List ℕ) → List ℕ → List ℕ → Line
 readLine c index store destination = record {
   result = axOf (readAnswer c index store destination);
   answer = answerWords (readAnswer c index store destination) false;
@@ -34,10 +34,10 @@ readLine c index store destination = record {
   destination = digest (readDestination c index store destination);
 }
 
-unfoldable pub choiceBy : LoadOperands → List ℕ → List ℕ → LoadChoice
-choiceBy l index store = indexedChoice (l .loading) store (wordsIndex index) (l .signature) (l .platform)
+unfoldable pub choiceBy : LoadOperands → List (List ℕ) → List ℕ → LoadChoice
+choiceBy l index store = indexedChoice (l .loading) store (indexIn index) (l .signature) (l .platform)
 
-unfoldable pub loadIndexedLine : LoadOperands → List ℕ → List ℕ → List ℕ → Line
+unfoldable pub loadIndexedLine : LoadOperands → List (List ℕ) → List ℕ → List ℕ → Line
 loadIndexedLine l index store destination = record {
   result = loadAx (choiceBy l index store);
   answer = loadWords (l .loading) store (choiceBy l index store);

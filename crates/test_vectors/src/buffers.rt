@@ -1,4 +1,7 @@
 // The buffers and lists that the steps set. Each has room for more than the calls accept.
+use store_blocks::MOST_BLOCKS;
+use store_index::COLUMNS;
+
 pub const STORE: usize = 69632;
 
 pub const CANDIDATE: usize = 36864;
@@ -20,4 +23,4 @@ pub type Signatures = [u32; LIST];
 
 pub type Platforms = [u8; LIST];
 
-pub type Index = [u32; INDEX];
+pub type Index = [[u32; MOST_BLOCKS]; COLUMNS];

@@ -4,6 +4,7 @@ ghost use Prim.Native.Nat.{_<_};
 ghost use Rattle.test_vectors.specs.Digest.{modulus, digestStep, digest, indexDigest};
 use crate::buffers::INDEX;
 use crate::buffers::Index;
+use store_blocks::MOST_BLOCKS;
 
 const MODULUS: u64 = 4294967291;
 
@@ -47,7 +48,7 @@ pub fn numbers(x: &Index) -> u32
     let mut h: u64 = 1;
     let mut i: usize = 0;
     while i < INDEX {
-        h = step(h, x[i]);
+        h = step(h, x[i / MOST_BLOCKS][i % MOST_BLOCKS]);
         i += 1;
     }
     h as u32

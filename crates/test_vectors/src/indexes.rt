@@ -1,10 +1,10 @@
 // The steps that set the index: it is made from the store, carried over a write, or put number by number.
 ghost use mathlib.Core.Path.{_≡_};
 ghost use Prim.Native.Nat.{_≤_, _<_};
-ghost use lib.ListN.{length, take, set};
+ghost use lib.ListN.{length, take};
 ghost use Rattle.test_vectors.specs.RunState.{Within};
 ghost use Rattle.test_vectors.specs.Operands.{afterOperands, putOperands};
-ghost use Rattle.test_vectors.specs.IndexLine.{madeIndex, carriedIndex, makeLine, afterLine};
+ghost use Rattle.test_vectors.specs.IndexLine.{madeIndex, carriedIndex, withWord, makeLine, afterLine};
 use crate::buffers::Destination;
 use crate::buffers::Index;
 use crate::buffers::Store;
@@ -15,6 +15,7 @@ use crate::lines::IndexLine;
 use crate::lines::Line;
 use crate::state;
 use crate::state::State;
+use store_blocks::MOST_BLOCKS;
 
 // The operands of an index carried over a write.
 pub struct AfterOperands {
@@ -139,10 +140,10 @@ fn after_with(
 // Sets one number.
 fn set_number(index: &mut Index, p: PutOperands)
     requires { ⌜ p .place < 128 ⌝ }
-    ensures { λ _. ⌜ now (index .exit) ≡ set (now (index .entry)) (p .place) (p .number) ⌝ }
+    ensures { λ _. ⌜ now (index .exit) ≡ withWord (now (index .entry)) (p .place) (p .number) ⌝ }
 {
     let place = p.place as usize;
-    index[place] = p.number;
+    index[place / MOST_BLOCKS][place % MOST_BLOCKS] = p.number;
 }
 
 pub fn make(s: State, store: &Store, destination: &Destination, index: &mut Index) -> State

@@ -14,9 +14,10 @@ mod state;
 
 use crate::buffers::CANDIDATE;
 use crate::buffers::DESTINATION;
-use crate::buffers::INDEX;
 use crate::buffers::LIST;
 use crate::buffers::STORE;
+use store_blocks::MOST_BLOCKS;
+use store_index::COLUMNS;
 
 fn main() {
     let mut store = [0u8; STORE];
@@ -24,7 +25,7 @@ fn main() {
     let mut destination = [0u8; DESTINATION];
     let mut signatures = [0u32; LIST];
     let mut platforms = [0u8; LIST];
-    let mut index = [0u32; INDEX];
+    let mut index = [[0u32; MOST_BLOCKS]; COLUMNS];
     let last = run::run(
         &mut store,
         &mut candidate,

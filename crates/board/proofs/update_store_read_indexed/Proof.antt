@@ -1,4 +1,4 @@
--- `board::update_store_read_indexed` meets its contract: the plan by the index of the words, carried out and laid out.
+-- `board::update_store_read_indexed` meets its contract: the plan by the lent index, carried out and laid out.
 use mathlib.Core.Path.{ap, _∙_}
 use mathlib.Core.Bool.{false}
 use lib.ListN.{length}
@@ -29,8 +29,7 @@ returns : tie.Need-returns
 unfolding indexedAnswer indexedBytes
 returns c =
     let d = c .before .before .before .before .before in
-    let p = d .before .before in
-    let e = rw (p .before .index-from .ensures) at (p .indexed-plan .ensures) in (
+    let e = d .before .before .indexed-plan .ensures in (
       c .plan-ax .ensures ∙ ap (λ (q : ReadPlan). axOf (answered q)) e,
       (c .before .plan-words .ensures ∙ ap (λ (q : ReadPlan). answerWords (answered q) false) e, d .copy-planned .ensures .1 ∙ ap (copied _ _ _) e),
     )
@@ -39,7 +38,6 @@ pub update-store-read-indexed-spec : {M : Type 1} → statement M
 update-store-read-indexed-spec =
     tie.close
     (tie.spec
-    (λ c κs. tt)
     (λ c κs. tt)
     copy-planned-requires
     plan-words-requires

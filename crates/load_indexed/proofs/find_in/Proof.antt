@@ -5,18 +5,18 @@ use Prim.Native.Nat.{_/_, _≤_, _-_}
 use native.Mathlib.Omega.{arith}
 use lib.ListN.{length}
 use Rattle.laws.specs.Below.{anyBelow, any-none}
-use Rattle.store_index.specs.Index.{columns}
+use Rattle.store_index.specs.IndexColumns.{indexIn}
 use Rattle.load_indexed.specs.IndexedLoad.{holdsIn}
 use Rattle.load_indexed.specs.IndexedLoadLaws.{blocks-most, first-pairs, scan-other, scan-next, scan-found, scan-nothing}
 use Rattle.load_indexed.proofs.find_in.Statement.{statement}
 use Rattle.load_indexed.proofs.find_in.Tie as tie
 
 abbrev Inv-loop : tie.InvT-loop
-Inv-loop store kinds starts revisions sizes signature platform n b₀ b =
-    (anyBelow b (holdsIn store (columns kinds starts revisions sizes) signature platform) ≡ false) × ((b ≤ n) × ((n ≡ length store / 2048) × (n ≤ 32)))
+Inv-loop store columns signature platform n b₀ b =
+    (anyBelow b (holdsIn store (indexIn columns) signature platform) ≡ false) × ((b ≤ n) × ((n ≡ length store / 2048) × (n ≤ 32)))
 
 abbrev μ-loop : tie.MeasureT-loop
-μ-loop store kinds starts revisions sizes signature platform n b₀ b = n - b
+μ-loop store columns signature platform n b₀ b = n - b
 
 loop-holds : tie.Need-loop-holds Inv-loop μ-loop
 loop-holds c =
@@ -71,9 +71,11 @@ find-in-spec =
     (λ c. omega arith)
     (λ c. omega arith)
     (λ c. omega arith)
+    (λ c. omega arith)
     (λ c κs. tt)
     judged-pairs-requires
     (λ c κs. c .judged-pairs .ensures)
+    (λ c. omega arith)
     (λ c. omega arith)
     (λ c. omega arith)
     (λ c. omega arith)

@@ -1,15 +1,15 @@
--- `call_indexed::index::index` meets its contract: the index of a valid store, and the refusal of a bad one.
-use borrow.Author.Needs.{needs}
-use Rattle.call_indexed.specs.IndexCallLaws.{reply-bad, reply-good}
+-- `call_indexed::index::index` meets its contract: the index that is written, and its codes.
+use mathlib.Core.Path.{ap, _∙_}
+use Rattle.store_index.specs.IndexColumns.{indexIn}
+use Rattle.call_indexed.specs.IndexCall.{indexReply}
 use Rattle.call_indexed.proofs.index.index.Statement.{statement}
 use Rattle.call_indexed.proofs.index.index.Tie as tie
 
 returns : tie.Need-returns
-returns c = reply-good _ _ (c .before .before .read-store .ensures) _ (c .before .if1 .taken) (c .index-of .ensures)
-
-returns-2 : tie.Need-returns-2
-returns-2 c = reply-bad _ _ (c .before .before .read-store .ensures) _ (c .before .if1 .left) (c .all-unused .ensures)
+unfolding indexReply
+returns c =
+    let p = c .before .before in
+    rw (c .index-in .ensures ∙ ap indexIn (p .put-index .ensures .1), p .put-index .ensures .0)
 
 pub index-spec : {M : Type 1} → statement M
-index-spec =
-    tie.close (tie.spec (search needs) (λ c κs. (c .before .read-store .ensures, c .if1 .taken)) (search needs) returns returns-2)
+index-spec = tie.close (tie.spec (λ c κs. tt) (λ c κs. tt) returns)

@@ -1,7 +1,6 @@
 -- `call_indexed::read::read_indexed` meets its contract: the plan, carried out.
 use mathlib.Core.Path.{ap, _∙_}
 use lib.ListN.{length}
-use borrow.Author.Needs.{needs}
 use Rattle.call_reads.specs.Read.{answered, copied}
 use Rattle.call_reads.specs.ReadLaws.{copied-long}
 use Rattle.call_indexed.specs.IndexedRead.{indexedAnswer, indexedBytes}
@@ -21,8 +20,9 @@ returns : tie.Need-returns
 unfolding indexedAnswer indexedBytes
 returns c =
     let p = c .before .before in
-    let e = p .before .before .indexed-plan .ensures in
+    let h = p .before .before in
+    let e = rw (h .before .before .columns-of .ensures) at (h .indexed-plan .ensures) in
     (p .copy-planned .ensures .0 ∙ ap answered e, p .copy-planned .ensures .1 ∙ ap (copied _ _ _) e)
 
 pub read-indexed-spec : {M : Type 1} → statement M
-read-indexed-spec = tie.close (tie.spec (search needs) copy-planned-requires same-length returns)
+read-indexed-spec = tie.close (tie.spec (λ c κs. tt) (λ c κs. tt) copy-planned-requires same-length returns)

@@ -3,18 +3,18 @@ use mathlib.Core.Path.{_≡_}
 use Prim.Native.Nat.{_≤_, _-_}
 use native.Mathlib.Omega.{arith}
 use borrow.Author.Needs.{needs}
-use Rattle.store_index.specs.Index.{columns}
+use Rattle.store_index.specs.IndexColumns.{indexIn}
 use Rattle.store_index.specs.OwnLines.{Gathered, UpdateFrom}
 use Rattle.store_index.specs.OwnLineLaws.{update-none, update-more, update-done}
 use Rattle.store_index.proofs.own.update_lines.Statement.{statement}
 use Rattle.store_index.proofs.own.update_lines.Tie as tie
 
 abbrev Inv-loop : tie.InvT-loop
-Inv-loop kinds starts revisions sizes differs start revision size end all₀ b₀ all b =
-    Gathered all differs (UpdateFrom (columns kinds starts revisions sizes) start revision size b) × ((start ≤ b) × (b ≤ end))
+Inv-loop columns differs start revision size end all₀ b₀ all b =
+    Gathered all differs (UpdateFrom (indexIn columns) start revision size b) × ((start ≤ b) × (b ≤ end))
 
 abbrev μ-loop : tie.MeasureT-loop
-μ-loop kinds starts revisions sizes differs start revision size end all₀ b₀ all b = end - b
+μ-loop columns differs start revision size end all₀ b₀ all b = end - b
 
 loop-again : tie.Need-loop-again Inv-loop μ-loop
 loop-again c =
@@ -36,7 +36,11 @@ update-lines-spec =
     (λ c. omega arith)
     (λ c. omega arith)
     (λ c. omega arith)
+    (λ c. omega arith)
     (λ c κs. tt)
+    (λ c. omega arith)
+    (λ c. omega arith)
+    (λ c. omega arith)
     (λ c. omega arith)
     (λ c. omega arith)
     (λ c. omega arith)

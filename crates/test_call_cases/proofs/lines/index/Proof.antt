@@ -1,7 +1,6 @@
 -- `test_call_cases::lines::index` is safe and ends: `b` grows to 32.
 use Prim.Native.Nat.{_≤_, _-_}
 use native.Mathlib.Omega.{arith}
-use borrow.Author.Needs.{needs}
 use Rattle.test_call_cases.proofs.lines.index.Statement.{statement}
 use Rattle.test_call_cases.proofs.lines.index.Tie as tie
 
@@ -19,19 +18,20 @@ index-spec =
     μ-loop
     (λ c. omega arith)
     (λ c. omega arith)
-    (λ c. search needs)
     (λ c. omega arith)
     (λ c. omega arith)
-    (λ c. search needs)
     (λ c. omega arith)
     (λ c. omega arith)
-    (λ c. search needs)
     (λ c. omega arith)
     (λ c. omega arith)
-    (λ c. search needs)
+    (λ c. omega arith)
+    (λ c. omega arith)
+    (λ c. omega arith)
+    (λ c. omega arith)
+    (λ c. omega arith)
     (λ c. omega arith)
     (λ c κs. tt)
     (λ c. omega arith)
     (λ c. omega arith)
     (λ c. omega arith)
-    (λ c. search needs))
+    (λ c. tt))

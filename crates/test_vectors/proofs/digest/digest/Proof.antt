@@ -2,19 +2,19 @@
 use mathlib.Core.Path.{_≡_, refl}
 use Prim.Native.Nat.{_≤_, _<_, _-_}
 use borrow.Author.Needs.{needs}
-use Rattle.test_vectors.specs.Digest.{modulus, digestTo}
+use Rattle.test_vectors.specs.Digest.{modulus, digestTo, byteAt}
 use Rattle.test_vectors.specs.DigestLaws.{digest-none, digest-next, digest-four, digest-all}
 use Rattle.test_vectors.proofs.digest.digest.Statement.{statement}
 use Rattle.test_vectors.proofs.digest.digest.Tie as tie
 
 abbrev Inv-loop : tie.InvT-loop
-Inv-loop s n h₀ i₀ h i = (i ≤ n) × (h < modulus) × (h ≡ digestTo s i)
+Inv-loop s n h₀ i₀ h i = (i ≤ n) × (h < modulus) × (h ≡ digestTo (byteAt s) i)
 
 abbrev μ-loop : tie.MeasureT-loop
 μ-loop s n h₀ i₀ h i = n - i
 
 abbrev Inv-loop2 : tie.InvT-loop2
-Inv-loop2 s n h₀ i₀ h i = (i ≤ n) × (h < modulus) × (h ≡ digestTo s i)
+Inv-loop2 s n h₀ i₀ h i = (i ≤ n) × (h < modulus) × (h ≡ digestTo (byteAt s) i)
 
 abbrev μ-loop2 : tie.MeasureT-loop2
 μ-loop2 s n h₀ i₀ h i = n - i
