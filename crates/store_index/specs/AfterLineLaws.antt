@@ -12,7 +12,7 @@ use native.Mathlib.Omega.{arith}
 use lib.Pow.{pow-pos, pow-mono, split, shr-shr}
 use lib.Dec.{eqb, ltb}
 use borrow.Author.Tests.{eq-eqb, ne-eqb, ltb-true, ltb-false}
-use Rattle.laws.specs.Bits.{bit, bit-behind}
+use Rattle.laws.specs.Bits.{bit, bit-mod, bit-behind}
 use Rattle.laws.specs.Orders.{le-or-lt}
 use Rattle.laws.specs.Span.{spans, Spans, spans-law}
 use Rattle.laws.specs.Bools.{no-true}
@@ -23,7 +23,7 @@ use Rattle.store_index.specs.IndexColumns.{columnsOf, indexIn}
 use Rattle.store_index.specs.IndexAfter.{clearedLine, lineAfter, indexAfter}
 use Rattle.store_index.specs.UpdateLines.{Columns, LinePut, LinesPut}
 use Rattle.store_index.specs.UpdateLineLaws.{columns-are}
-use Rattle.store_index.specs.AfterLines.{runEnd, Cleared}
+use Rattle.store_index.specs.AfterLines.{runEnd, ZerosBelow, Cleared}
 
 -- `left` are the bits from b on
 pub clear-left : (emptied b left : ℕ) → left ≡ emptied / 2 ^ b → left / 2 ≡ emptied / 2 ^ (b + 1)
@@ -37,8 +37,10 @@ clear-inside emptied b left small e n =
     (le-or-lt 32 b)
 
 module _ (emptied : ℕ) (old : List (List ℕ)) where
-  pub clear-none : Columns old → Cleared emptied 0 old old
-  clear-none long = record { long = long; below = λ c l. absurd (let v : ⊥ = omega arith in v); rest = λ c l. refl }
+  -- bits that are 0 empty nothing
+  pub clear-none : (b : ℕ) → ZerosBelow emptied b → Columns old → Cleared emptied b old old
+  unfolding clearedLine unless
+  clear-none b z long = record { long = long; below = λ c l. rw (sym (bit-mod emptied b c l) ∙ ap (λ (y : ℕ). bit y c) (z .0) ∙ bit-behind 0 0 c (omega arith) (omega arith)); rest = λ c l. refl }
 
   module _ (b left : ℕ) (e : left ≡ emptied / 2 ^ b) (new : List (List ℕ)) (h : Cleared emptied b old new) where
     pub clear-unset : (left % 2 ≡ 1 → ⊥) → Cleared emptied (b + 1) old new

@@ -3,7 +3,7 @@ ghost use mathlib.Core.Path.{_≡_};
 ghost use Rattle.store_index.specs.IndexAfter.{indexAfter};
 ghost use Rattle.store_index.specs.IndexColumns.{columnsOf, indexIn};
 ghost use Rattle.store_index.specs.UpdateLines.{Columns};
-ghost use Rattle.store_index.specs.AfterLines.{runEnd, Cleared};
+ghost use Rattle.store_index.specs.AfterLines.{runEnd, ZerosBelow, Cleared};
 use crate::COLUMNS;
 use crate::Index;
 use crate::UNUSED;
@@ -18,13 +18,29 @@ fn run_end(start: u32, size: u32) -> usize
     if end < MOST_BLOCKS { end } else { MOST_BLOCKS }
 }
 
+// A number of low bits that are 0, so that a write into high blocks doesn't go through all of them.
+fn low_zeros(bits: u32) -> u32
+    ensures { λ r. ⌜ ZerosBelow bits r ⌝ }
+{
+    if bits % 0x1000000 == 0 {
+        24
+    } else {
+        if bits % 0x10000 == 0 {
+            16
+        } else {
+            if bits % 0x100 == 0 { 8 } else { 0 }
+        }
+    }
+}
+
 // Clears the lines of the emptied blocks.
 fn clear_lines(columns: &mut [[u32; MOST_BLOCKS]; COLUMNS], emptied: u32)
     requires { ⌜ Columns (now columns) ⌝ }
     ensures { λ _. ⌜ Cleared emptied 32 (now (columns .entry)) (now (columns .exit)) ⌝ }
 {
-    let mut left = emptied;
-    let mut b: usize = 0;
+    let zeros = low_zeros(emptied);
+    let mut left = emptied >> zeros;
+    let mut b = zeros as usize;
     while left != 0 {
         if left % 2 == 1 {
             lines::put_line(columns, b, UNUSED, 0, 0, 0);

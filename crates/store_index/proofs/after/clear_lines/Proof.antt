@@ -1,6 +1,6 @@
 -- `store_index::after::clear_lines` meets its contract. The loop's invariant: the lines of the emptied blocks passed are unused, and the bits
 -- ahead are left.
-use mathlib.Core.Path.{_≡_}
+use mathlib.Core.Path.{_≡_, refl}
 use Prim.Native.Nat.{_/_, _^_, _<_, _-_, _≤_}
 use native.Mathlib.Omega.{arith}
 use Rattle.store_index.specs.AfterLines.{Cleared}
@@ -9,10 +9,10 @@ use Rattle.store_index.proofs.after.clear_lines.Statement.{statement}
 use Rattle.store_index.proofs.after.clear_lines.Tie as tie
 
 abbrev Inv-loop : tie.InvT-loop
-Inv-loop columns₀ emptied left₀ b₀ columns left b = Cleared emptied b columns₀ columns × ((left ≡ emptied / 2 ^ b) × (b ≤ 32))
+Inv-loop columns₀ emptied zeros left₀ b₀ columns left b = Cleared emptied b columns₀ columns × ((left ≡ emptied / 2 ^ b) × (b ≤ 32))
 
 abbrev μ-loop : tie.MeasureT-loop
-μ-loop columns₀ emptied left₀ b₀ columns left b = 32 - b
+μ-loop columns₀ emptied zeros left₀ b₀ columns left b = 32 - b
 
 put-line-requires : tie.Need-put-line-requires Inv-loop μ-loop
 put-line-requires c κs =
@@ -56,7 +56,10 @@ clear-lines-spec =
     (tie.spec
     Inv-loop
     μ-loop
-    (λ c. (clear-none _ _ (c .pre), (omega arith, omega arith)))
+    (λ c κs. tt)
+    (λ c. omega (arith, c .low-zeros .ensures .1))
+    (λ c. omega arith)
+    (λ c. let z = c .low-zeros .ensures in (clear-none _ _ _ z (c .before .pre), (refl, omega (arith, z .1))))
     put-line-requires
     (λ c. omega arith)
     loop-less
