@@ -42,8 +42,8 @@ case ${PIC:-0} in
 esac
 
 rt=$(command -v rt) || fail "rt, of the Rattle toolchain, is not in PATH"
-for tool in awk nm objcopy objdump; do
-    command -v "$tool" >/dev/null || fail "$tool is not in PATH (nm, objcopy and objdump are in Debian's binutils)"
+for tool in awk nm objdump; do
+    command -v "$tool" >/dev/null || fail "$tool is not in PATH (nm and objdump are in Debian's binutils)"
 done
 kit=${RATTLE_HOME:-$(dirname "$(dirname "$(readlink -f "$rt")")")}
 tools=on/$(uname -m)/toolchain
@@ -151,8 +151,6 @@ trouble=$(awk -F '\t' -v known="^($known)$" '
         if (words[i] !~ known || /%(st|[xyz]?mm)/) { print $2; exit }
     }' "$work/code")
 [ -z "$trouble" ] || fail "an instruction beyond the $march: $trouble"
-# The copies of an index are calls of memcpy. memmove does the same, and then a board needs no third function.
-objcopy --redefine-sym memcpy=memmove "$work/board.o"
 nm -u "$work/board.o" >"$work/undefined"
 trouble=$(awk -v needed="^($needed)$" '$2 !~ needed { printf " %s", $2 }' "$work/undefined")
 [ -z "$trouble" ] || fail "the code needs more than memmove and memset:$trouble"

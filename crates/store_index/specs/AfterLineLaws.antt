@@ -1,4 +1,5 @@
 -- The index after a write is made of the cleared lines and those of the run.
+--   low-few                                           at most 24 low bits are passed at once
 --   clear-none .. clear-done                          the loop over the bits of the emptied blocks
 --   run-inside                                        the run ends at block 32 or before
 --   after-run, after-none                             the whole index, with a run and without one
@@ -11,7 +12,7 @@ use native.Mathlib.Nat.{eq-or-lt-of-le, div-eq-of-lt, mod-lt}
 use native.Mathlib.Omega.{arith}
 use lib.Pow.{pow-pos, pow-mono, split, shr-shr}
 use lib.Dec.{eqb, ltb}
-use borrow.Author.Tests.{eq-eqb, ne-eqb, ltb-true, ltb-false}
+use borrow.Author.Tests.{eqb-true, eq-eqb, ne-eqb, ltb-true, ltb-false}
 use Rattle.laws.specs.Bits.{bit, bit-mod, bit-behind}
 use Rattle.laws.specs.Orders.{le-or-lt}
 use Rattle.laws.specs.Span.{spans, Spans, spans-law}
@@ -23,7 +24,7 @@ use Rattle.store_index.specs.IndexColumns.{columnsOf, indexIn}
 use Rattle.store_index.specs.IndexAfter.{clearedLine, lineAfter, indexAfter}
 use Rattle.store_index.specs.UpdateLines.{Columns, LinePut, LinesPut}
 use Rattle.store_index.specs.UpdateLineLaws.{columns-are}
-use Rattle.store_index.specs.AfterLines.{runEnd, ZerosBelow, Cleared}
+use Rattle.store_index.specs.AfterLines.{runEnd, lowZeros, Cleared}
 
 -- `left` are the bits from b on
 pub clear-left : (emptied b left : ℕ) → left ≡ emptied / 2 ^ b → left / 2 ≡ emptied / 2 ^ (b + 1)
@@ -36,11 +37,27 @@ clear-inside emptied b left small e n =
     (λ (l : b < 32). l)
     (le-or-lt 32 b)
 
+-- r low bits are 0
+module _ (bits r : ℕ) (e : r ≡ lowZeros bits) where
+  low-zeros : (bits % 2 ^ r ≡ 0) × (r ≤ 24)
+  unfolding lowZeros
+  low-zeros = rw e (go (eqb (bits % 16777216) 0) (eqb (bits % 65536) 0) (eqb (bits % 256) 0) refl refl refl)
+    where
+      go : (a b c : Bool) → eqb (bits % 16777216) 0 ≡ a → eqb (bits % 65536) 0 ≡ b → eqb (bits % 256) 0 ≡ c
+          → (bits % 2 ^ cond a 24 (cond b 16 (cond c 8 0)) ≡ 0) × (cond a 24 (cond b 16 (cond c 8 0)) ≤ 24)
+      go true b c p q t = (eqb-true (bits % 16777216) 0 p, omega arith)
+      go false true c p q t = (eqb-true (bits % 65536) 0 q, omega arith)
+      go false false true p q t = (eqb-true (bits % 256) 0 t, omega arith)
+      go false false false p q t = (omega arith, omega arith)
+
+  pub low-few : r ≤ 24
+  low-few = low-zeros .1
+
 module _ (emptied : ℕ) (old : List (List ℕ)) where
   -- bits that are 0 empty nothing
-  pub clear-none : (b : ℕ) → ZerosBelow emptied b → Columns old → Cleared emptied b old old
+  pub clear-none : (b : ℕ) → b ≡ lowZeros emptied → Columns old → Cleared emptied b old old
   unfolding clearedLine unless
-  clear-none b z long = record { long = long; below = λ c l. rw (sym (bit-mod emptied b c l) ∙ ap (λ (y : ℕ). bit y c) (z .0) ∙ bit-behind 0 0 c (omega arith) (omega arith)); rest = λ c l. refl }
+  clear-none b z long = record { long = long; below = λ c l. rw (sym (bit-mod emptied b c l) ∙ ap (λ (y : ℕ). bit y c) (low-zeros emptied b z .0) ∙ bit-behind 0 0 c (omega arith) (omega arith)); rest = λ c l. refl }
 
   module _ (b left : ℕ) (e : left ≡ emptied / 2 ^ b) (new : List (List ℕ)) (h : Cleared emptied b old new) where
     pub clear-unset : (left % 2 ≡ 1 → ⊥) → Cleared emptied (b + 1) old new

@@ -3,7 +3,7 @@ ghost use mathlib.Core.Path.{_≡_};
 ghost use Rattle.store_index.specs.IndexAfter.{indexAfter};
 ghost use Rattle.store_index.specs.IndexColumns.{columnsOf, indexIn};
 ghost use Rattle.store_index.specs.UpdateLines.{Columns};
-ghost use Rattle.store_index.specs.AfterLines.{runEnd, ZerosBelow, Cleared};
+ghost use Rattle.store_index.specs.AfterLines.{runEnd, lowZeros, Cleared};
 use crate::COLUMNS;
 use crate::Index;
 use crate::UNUSED;
@@ -18,9 +18,9 @@ fn run_end(start: u32, size: u32) -> usize
     if end < MOST_BLOCKS { end } else { MOST_BLOCKS }
 }
 
-// A number of low bits that are 0, so that a write into high blocks doesn't go through all of them.
+// How many low bits are 0, by eights, so that a write into high blocks doesn't go through all of them.
 fn low_zeros(bits: u32) -> u32
-    ensures { λ r. ⌜ ZerosBelow bits r ⌝ }
+    ensures { λ r. ⌜ r ≡ lowZeros bits ⌝ }
 {
     if bits % 0x1000000 == 0 {
         24

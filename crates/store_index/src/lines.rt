@@ -56,18 +56,20 @@ pub fn put_lines(
     }
 }
 
-// Says how long a column is, and how many there are: a lent array's length isn't told otherwise.
+// How many places a lent column has. A contract knows the length of a lent array only where it is passed on as a slice, so this one and the
+// next do nothing but take one.
 fn places(column: &[u32])
     requires { ⌜ length (now column) ≡ 32 ⌝ }
     ensures { λ _. ⌜ length (now (column .entry)) ≡ 32 ⌝ }
 {}
 
+// How many columns are lent.
 fn count(columns: &[[u32; MOST_BLOCKS]])
     requires { ⌜ length (now columns) ≡ 4 ⌝ }
     ensures { λ _. ⌜ length (now (columns .entry)) ≡ 4 ⌝ }
 {}
 
-// Lent columns are four of 32 places. There is nothing to do for that.
+// Lent columns are four of 32 places.
 pub fn lengths(columns: &[[u32; MOST_BLOCKS]; COLUMNS])
     ensures { λ _. ⌜ Columns (now (columns .entry)) ⌝ }
 {

@@ -63,7 +63,7 @@ fn update_lines(
     all
 }
 
-// Is the lent index that of the valid store whose directory has these entries? They are lent one by one, since a directory by value is copied.
+// Is the lent index that of the valid store whose directory has these entries? The directory's arrays are lent, since by value they are copied.
 pub fn is_own<'a>(
     store: &[u8],
     count: usize,
@@ -86,5 +86,5 @@ pub fn is_own<'a>(
         blocks += size;
         i += 1;
     }
-    differs | (used ^ blocks) == 0
+    (differs | (used ^ blocks)) == 0
 }

@@ -4,7 +4,7 @@ use mathlib.Core.Path.{_≡_, refl}
 use Prim.Native.Nat.{_/_, _^_, _<_, _-_, _≤_}
 use native.Mathlib.Omega.{arith}
 use Rattle.store_index.specs.AfterLines.{Cleared}
-use Rattle.store_index.specs.AfterLineLaws.{clear-none, clear-left, clear-inside, clear-set, clear-unset, clear-done}
+use Rattle.store_index.specs.AfterLineLaws.{low-few, clear-none, clear-left, clear-inside, clear-set, clear-unset, clear-done}
 use Rattle.store_index.proofs.after.clear_lines.Statement.{statement}
 use Rattle.store_index.proofs.after.clear_lines.Tie as tie
 
@@ -57,9 +57,9 @@ clear-lines-spec =
     Inv-loop
     μ-loop
     (λ c κs. tt)
-    (λ c. omega (arith, c .low-zeros .ensures .1))
+    (λ c. omega (arith, low-few _ _ (c .low-zeros .ensures)))
     (λ c. omega arith)
-    (λ c. let z = c .low-zeros .ensures in (clear-none _ _ _ z (c .before .pre), (refl, omega (arith, z .1))))
+    (λ c. let z = c .low-zeros .ensures in (clear-none _ _ _ z (c .before .pre), (refl, omega (arith, low-few _ _ z))))
     put-line-requires
     (λ c. omega arith)
     loop-less
