@@ -1,5 +1,6 @@
 -- Laws of the sum of dwords.
 --   summed                          what a loop has summed, with the dwords that are left
+--   sum-sixteen, sum-four           a loop that adds sixteen dwords a turn to four sums
 --   sum-start, sum-turn, sum-end    a loop that adds one dword a turn
 --   sum-append                      the sum of two parts, the first of whole dwords
 use Prim.Native.Nat.{ℕ, zero, suc, _+_, _*_, _/_, _%_, _^_, _<_, _≤_}
@@ -29,31 +30,84 @@ none (a ∷ b ∷ []) l = refl
 none (a ∷ b ∷ c ∷ []) l = refl
 none (a ∷ b ∷ c ∷ d ∷ s) l = absurd (omega arith)
 
--- what a loop has summed, with the dwords that are left from byte 4 i on
-unfoldable pub summed : List ℕ → ℕ → ℕ → ℕ
-summed s sum i = (sum + total (dwordsOf (drop (4 * i) s))) % 2 ^ 32
+-- the bytes from `at` on: their first dword, and the bytes from `next` on
+front-at : (s : List ℕ) (at next : ℕ) → next ≡ at + 4 → next ≤ length s
+    → total (dwordsOf (drop at s)) ≡ dword s at + total (dwordsOf (drop next s))
+front-at s at next e l =
+    let h = length-drop at s in
+    let k = front (drop at s) (omega arith) in
+    let m = dword-drop s at in
+    rw (e, ← drop-drop 4 at s) (omega arith)
 
--- x is the dword that a turn reads, and r what it then has summed
+-- what a loop has summed, with the dwords that are left from byte `at` on
+unfoldable pub summed : List ℕ → ℕ → ℕ → ℕ
+summed s sum at = (sum + total (dwordsOf (drop at s))) % 2 ^ 32
+
 module _ (s : List ℕ) where
   pub sum-start : summed s 0 0 ≡ dwordSum s
   unfolding summed dwordSum
   sum-start = omega arith
 
-  pub sum-turn : (sum i x r : ℕ) → summed s sum i ≡ dwordSum s → i < length s / 4
-      → x ≡ dword s (4 * i) → r ≡ (sum + x) % 2 ^ 32 → summed s r (i + 1) ≡ dwordSum s
+  -- a dword is added to one of several sums, t in all before and u after
+  sum-step : (t u others sum r at next : ℕ) → summed s t at ≡ dwordSum s → t ≡ others + sum → u ≡ others + r
+      → next ≡ at + 4 → next ≤ length s → r ≡ (sum + dword s at) % 2 ^ 32 → summed s u next ≡ dwordSum s
   unfolding summed
-  sum-turn sum i x r w l e f =
-      let g : 4 * (i + 1) ≡ 4 * i + 4 = omega arith in
-      let h = length-drop (4 * i) s in
-      let k = front (drop (4 * i) s) (omega arith) in
-      let m = dword-drop s (4 * i) in
-      rw (g, ← drop-drop 4 (4 * i) s) (omega arith)
+  sum-step t u others sum r at next w e f g l h = let k = front-at s at next g l in omega arith
 
-  pub sum-end : (sum i : ℕ) → summed s sum i ≡ dwordSum s → length s / 4 ≤ i → sum < 2 ^ 32 → sum ≡ dwordSum s
+  -- sixteen dwords are added to four sums, every fourth to the same
+  pub sum-sixteen : (at next a b c d a₁ b₁ c₁ d₁ a₂ b₂ c₂ d₂ a₃ b₃ c₃ d₃ a₄ b₄ c₄ d₄ : ℕ)
+      → summed s (a + b + c + d) at ≡ dwordSum s → next ≡ at + 64 → next ≤ length s
+      → a₁ ≡ (a + dword s at) % 2 ^ 32 → b₁ ≡ (b + dword s (at + 4)) % 2 ^ 32
+      → c₁ ≡ (c + dword s (at + 8)) % 2 ^ 32 → d₁ ≡ (d + dword s (at + 12)) % 2 ^ 32
+      → a₂ ≡ (a₁ + dword s (at + 16)) % 2 ^ 32 → b₂ ≡ (b₁ + dword s (at + 20)) % 2 ^ 32
+      → c₂ ≡ (c₁ + dword s (at + 24)) % 2 ^ 32 → d₂ ≡ (d₁ + dword s (at + 28)) % 2 ^ 32
+      → a₃ ≡ (a₂ + dword s (at + 32)) % 2 ^ 32 → b₃ ≡ (b₂ + dword s (at + 36)) % 2 ^ 32
+      → c₃ ≡ (c₂ + dword s (at + 40)) % 2 ^ 32 → d₃ ≡ (d₂ + dword s (at + 44)) % 2 ^ 32
+      → a₄ ≡ (a₃ + dword s (at + 48)) % 2 ^ 32 → b₄ ≡ (b₃ + dword s (at + 52)) % 2 ^ 32
+      → c₄ ≡ (c₃ + dword s (at + 56)) % 2 ^ 32 → d₄ ≡ (d₃ + dword s (at + 60)) % 2 ^ 32
+      → summed s (a₄ + b₄ + c₄ + d₄) next ≡ dwordSum s
+  sum-sixteen at next a b c d a₁ b₁ c₁ d₁ a₂ b₂ c₂ d₂ a₃ b₃ c₃ d₃ a₄ b₄ c₄ d₄ w n l e₁ f₁ g₁ h₁ e₂ f₂ g₂ h₂ e₃ f₃ g₃ h₃ e₄ f₄ g₄ h₄ =
+      let w₁ = sum-step _ (a₁ + b + c + d) (b + c + d) a a₁ at (at + 4) w (omega arith) (omega arith) (omega arith) (omega arith) e₁ in
+      let w₂ = sum-step _ (a₁ + b₁ + c + d) (a₁ + c + d) b b₁ (at + 4) (at + 8) w₁ (omega arith) (omega arith) (omega arith) (omega arith) f₁ in
+      let w₃ = sum-step _ (a₁ + b₁ + c₁ + d) (a₁ + b₁ + d) c c₁ (at + 8) (at + 12) w₂ (omega arith) (omega arith) (omega arith) (omega arith) g₁ in
+      let w₄ = sum-step _ (a₁ + b₁ + c₁ + d₁) (a₁ + b₁ + c₁) d d₁ (at + 12) (at + 16) w₃ (omega arith) (omega arith) (omega arith) (omega arith) h₁ in
+      let w₅ = sum-step _ (a₂ + b₁ + c₁ + d₁) (b₁ + c₁ + d₁) a₁ a₂ (at + 16) (at + 20) w₄ (omega arith) (omega arith) (omega arith) (omega arith) e₂ in
+      let w₆ = sum-step _ (a₂ + b₂ + c₁ + d₁) (a₂ + c₁ + d₁) b₁ b₂ (at + 20) (at + 24) w₅ (omega arith) (omega arith) (omega arith) (omega arith) f₂ in
+      let w₇ = sum-step _ (a₂ + b₂ + c₂ + d₁) (a₂ + b₂ + d₁) c₁ c₂ (at + 24) (at + 28) w₆ (omega arith) (omega arith) (omega arith) (omega arith) g₂ in
+      let w₈ = sum-step _ (a₂ + b₂ + c₂ + d₂) (a₂ + b₂ + c₂) d₁ d₂ (at + 28) (at + 32) w₇ (omega arith) (omega arith) (omega arith) (omega arith) h₂ in
+      let w₉ = sum-step _ (a₃ + b₂ + c₂ + d₂) (b₂ + c₂ + d₂) a₂ a₃ (at + 32) (at + 36) w₈ (omega arith) (omega arith) (omega arith) (omega arith) e₃ in
+      let w₁₀ = sum-step _ (a₃ + b₃ + c₂ + d₂) (a₃ + c₂ + d₂) b₂ b₃ (at + 36) (at + 40) w₉ (omega arith) (omega arith) (omega arith) (omega arith) f₃ in
+      let w₁₁ = sum-step _ (a₃ + b₃ + c₃ + d₂) (a₃ + b₃ + d₂) c₂ c₃ (at + 40) (at + 44) w₁₀ (omega arith) (omega arith) (omega arith) (omega arith) g₃ in
+      let w₁₂ = sum-step _ (a₃ + b₃ + c₃ + d₃) (a₃ + b₃ + c₃) d₂ d₃ (at + 44) (at + 48) w₁₁ (omega arith) (omega arith) (omega arith) (omega arith) h₃ in
+      let w₁₃ = sum-step _ (a₄ + b₃ + c₃ + d₃) (b₃ + c₃ + d₃) a₃ a₄ (at + 48) (at + 52) w₁₂ (omega arith) (omega arith) (omega arith) (omega arith) e₄ in
+      let w₁₄ = sum-step _ (a₄ + b₄ + c₃ + d₃) (a₄ + c₃ + d₃) b₃ b₄ (at + 52) (at + 56) w₁₃ (omega arith) (omega arith) (omega arith) (omega arith) f₄ in
+      let w₁₅ = sum-step _ (a₄ + b₄ + c₄ + d₃) (a₄ + b₄ + d₃) c₃ c₄ (at + 56) (at + 60) w₁₄ (omega arith) (omega arith) (omega arith) (omega arith) g₄ in
+      sum-step _ (a₄ + b₄ + c₄ + d₄) (a₄ + b₄ + c₄) d₃ d₄ (at + 60) next w₁₅ (omega arith) (omega arith) (omega arith) (omega arith) h₄
+
+  -- two of several sums become one, t in all before and u after
+  sum-join : (t u others a b r at : ℕ) → summed s t at ≡ dwordSum s → t ≡ others + (a + b) → u ≡ others + r
+      → r ≡ (a + b) % 2 ^ 32 → summed s u at ≡ dwordSum s
   unfolding summed
-  sum-end sum i w l b =
-      let h = length-drop (4 * i) s in
-      let k = none (drop (4 * i) s) (omega arith) in
+  sum-join t u others a b r at w e f g = omega arith
+
+  -- four sums become two, x and y, and these one
+  pub sum-four : (at a b c d x y r : ℕ) → summed s (a + b + c + d) at ≡ dwordSum s
+      → x ≡ (a + b) % 2 ^ 32 → y ≡ (c + d) % 2 ^ 32 → r ≡ (x + y) % 2 ^ 32 → summed s r at ≡ dwordSum s
+  sum-four at a b c d x y r w e f g =
+      let v = sum-join _ (x + c + d) (c + d) a b x at w (omega arith) (omega arith) e in
+      let u = sum-join _ (x + y) x c d y at v (omega arith) (omega arith) f in
+      sum-join _ r 0 x y r at u (omega arith) (omega arith) g
+
+  -- the rest, one a turn
+  pub sum-turn : (sum at r : ℕ) → summed s sum at ≡ dwordSum s → at + 4 ≤ length s
+      → r ≡ (sum + dword s at) % 2 ^ 32 → summed s r (at + 4) ≡ dwordSum s
+  sum-turn sum at r w l e = sum-step sum r 0 sum r at (at + 4) w (omega arith) (omega arith) (omega arith) l e
+
+  pub sum-end : (sum at : ℕ) → summed s sum at ≡ dwordSum s → length s < at + 4 → sum < 2 ^ 32 → sum ≡ dwordSum s
+  unfolding summed
+  sum-end sum at w l b =
+      let h = length-drop at s in
+      let k = none (drop at s) (omega arith) in
       omega arith
 
 total-append : (n : ℕ) (a b : List ℕ) → length a ≡ 4 * n → total (dwordsOf (a ++ b)) ≡ total (dwordsOf a) + total (dwordsOf b)

@@ -1,6 +1,6 @@
 // Little-endian 32-bit numbers in a byte slice, and their sum modulo 2^32.
 ghost use mathlib.Core.Path.{_≡_};
-ghost use Prim.Native.Nat.{_+_, _≤_, _<_};
+ghost use Prim.Native.Nat.{_+_, _%_, _/_, _^_, _≤_, _<_, min};
 ghost use lib.ListN.{length, getD};
 ghost use Rattle.bytes_dwords.specs.Dword.{dword};
 ghost use Rattle.bytes_dwords.specs.Sum.{dwordSum};
@@ -57,16 +57,66 @@ pub fn dword(s: &[u8], at: usize) -> u32
     }
 }
 
+// A sum with the dword at byte `at` added to it.
+fn add_dword(sum: u32, s: &[u8], at: usize) -> u32
+    requires { ⌜ at + 4 ≤ length (now s) ⌝ }
+    ensures { λ r. ⌜ r ≡ (sum + dword (now (s .entry)) at) % 2 ^ 32 ⌝ }
+{
+    std::num::wrapping_add_u32(sum, dword_inside(s, at))
+}
+
+// How often `length` bytes have sixteen dwords, in 32 bits: at most FFFFFFFFh.
+fn turns_in(length: usize) -> u32
+    ensures { λ r. ⌜ r ≡ min (length / 64) 4294967295 ⌝ }
+{
+    let turns = length / 64;
+    if turns < 4294967296 {
+        turns as u32
+    } else {
+        4294967295
+    }
+}
+
 // The sum of the dwords of a slice, modulo 2^32. It wraps on purpose. Up to three bytes at the end that are no whole dword don't count.
+// A turn adds sixteen dwords, every fourth to the same of four sums, so that an addition needn't wait for the one before it. The rest
+// follows, one a turn. Turns are counted in 32 bits, since IA-32 adds 64 in two steps; a rest that is longer for it is summed all the same.
 pub fn sum(s: &[u8]) -> u32
     ensures { λ r. ⌜ r ≡ dwordSum (now (s .entry)) ⌝ }
 {
-    let n = s.len() / 4;
-    let mut sum: u32 = 0;
-    let mut i: usize = 0;
-    while i < n {
-        sum = std::num::wrapping_add_u32(sum, dword_inside(s, 4 * i));
-        i += 1;
+    let turns = turns_in(s.len());
+    let mut a: u32 = 0;
+    let mut b: u32 = 0;
+    let mut c: u32 = 0;
+    let mut d: u32 = 0;
+    let mut turn: u32 = 0;
+    while turn < turns {
+        let at = 64 * (turn as usize);
+        a = add_dword(a, s, at);
+        b = add_dword(b, s, at + 4);
+        c = add_dword(c, s, at + 8);
+        d = add_dword(d, s, at + 12);
+        a = add_dword(a, s, at + 16);
+        b = add_dword(b, s, at + 20);
+        c = add_dword(c, s, at + 24);
+        d = add_dword(d, s, at + 28);
+        a = add_dword(a, s, at + 32);
+        b = add_dword(b, s, at + 36);
+        c = add_dword(c, s, at + 40);
+        d = add_dword(d, s, at + 44);
+        a = add_dword(a, s, at + 48);
+        b = add_dword(b, s, at + 52);
+        c = add_dword(c, s, at + 56);
+        d = add_dword(d, s, at + 60);
+        turn += 1;
+    }
+    let mut sum = std::num::wrapping_add_u32(
+        std::num::wrapping_add_u32(a, b),
+        std::num::wrapping_add_u32(c, d),
+    );
+    let mut at = 64 * (turns as usize);
+    while s.len() - at >= 4 {
+        sum = add_dword(sum, s, at);
+        at += 4;
     }
     sum
 }
