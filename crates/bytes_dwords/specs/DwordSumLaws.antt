@@ -1,8 +1,8 @@
 -- Laws of the sum of dwords.
---   summed                          what a loop has summed, with the dwords that are left
---   sum-sixteen, sum-four           a loop that adds sixteen dwords a turn to four sums
---   sum-start, sum-turn, sum-end    a loop that adds one dword a turn
---   sum-append                      the sum of two parts, the first of whole dwords
+--   sum-start, sum-end        nothing summed, and nothing left
+--   sum-turn                  a loop that adds one dword a turn
+--   sum-sixteen, sum-four     a loop that adds sixteen dwords a turn to four sums, and the four as one
+--   sum-append                the sum of two parts, the first of whole dwords
 use Prim.Native.Nat.{ℕ, zero, suc, _+_, _*_, _/_, _%_, _^_, _<_, _≤_}
 use mathlib.Core.Path.{_≡_, refl}
 use mathlib.Core.List.{List, [], _∷_, _++_}
@@ -11,7 +11,7 @@ use lib.ListN.{length, drop, length-drop}
 use lib.Seq.{drop-drop}
 use Rattle.bytes_dwords.specs.Dword.{dword}
 use Rattle.bytes_dwords.specs.DwordLaws.{dword-drop}
-use Rattle.bytes_dwords.specs.Sum.{dwordsOf, total, dwordSum}
+use Rattle.bytes_dwords.specs.Sum.{dwordsOf, total, dwordSum, summed}
 
 -- one dword off the front, and the end
 front : (s : List ℕ) → 4 ≤ length s → total (dwordsOf s) ≡ dword s 0 + total (dwordsOf (drop 4 s))
@@ -30,33 +30,48 @@ none (a ∷ b ∷ []) l = refl
 none (a ∷ b ∷ c ∷ []) l = refl
 none (a ∷ b ∷ c ∷ d ∷ s) l = absurd (omega arith)
 
--- the bytes from `at` on: their first dword, and the bytes from `next` on
-front-at : (s : List ℕ) (at next : ℕ) → next ≡ at + 4 → next ≤ length s
-    → total (dwordsOf (drop at s)) ≡ dword s at + total (dwordsOf (drop next s))
-front-at s at next e l =
-    let h = length-drop at s in
-    let k = front (drop at s) (omega arith) in
-    let m = dword-drop s at in
-    rw (e, ← drop-drop 4 at s) (omega arith)
-
--- what a loop has summed, with the dwords that are left from byte `at` on
-unfoldable pub summed : List ℕ → ℕ → ℕ → ℕ
-summed s sum at = (sum + total (dwordsOf (drop at s))) % 2 ^ 32
-
 module _ (s : List ℕ) where
   pub sum-start : summed s 0 0 ≡ dwordSum s
   unfolding summed dwordSum
   sum-start = omega arith
 
+  pub sum-end : (sum at : ℕ) → length s < at + 4 → sum < 2 ^ 32 → sum ≡ summed s sum at
+  unfolding summed dwordSum
+  sum-end sum at l b =
+      let h = length-drop at s in
+      let k = none (drop at s) (omega arith) in
+      omega arith
+
+-- a loop that sums s: what it has, with the dwords that are left, is always the same
+module _ (s : List ℕ) (all : ℕ) where
+  -- the bytes from `at` on: their first dword, and the bytes from `next` on
+  front-at : (at next : ℕ) → next ≡ at + 4 → next ≤ length s
+      → total (dwordsOf (drop at s)) ≡ dword s at + total (dwordsOf (drop next s))
+  front-at at next e l =
+      let h = length-drop at s in
+      let k = front (drop at s) (omega arith) in
+      let m = dword-drop s at in
+      rw (e, ← drop-drop 4 at s) (omega arith)
+
   -- a dword is added to one of several sums, t in all before and u after
-  sum-step : (t u others sum r at next : ℕ) → summed s t at ≡ dwordSum s → t ≡ others + sum → u ≡ others + r
-      → next ≡ at + 4 → next ≤ length s → r ≡ (sum + dword s at) % 2 ^ 32 → summed s u next ≡ dwordSum s
+  sum-step : (t u others sum r at next : ℕ) → summed s t at ≡ all → t ≡ others + sum → u ≡ others + r
+      → next ≡ at + 4 → next ≤ length s → r ≡ (sum + dword s at) % 2 ^ 32 → summed s u next ≡ all
+  unfolding summed dwordSum
+  sum-step t u others sum r at next w e f g l h = let k = front-at at next g l in omega arith
+
+  -- two of several sums become one, t in all before and u after
+  sum-join : (t u others a b r at : ℕ) → summed s t at ≡ all → t ≡ others + (a + b) → u ≡ others + r
+      → r ≡ (a + b) % 2 ^ 32 → summed s u at ≡ all
   unfolding summed
-  sum-step t u others sum r at next w e f g l h = let k = front-at s at next g l in omega arith
+  sum-join t u others a b r at w e f g = omega arith
+
+  pub sum-turn : (sum at r : ℕ) → summed s sum at ≡ all → at + 4 ≤ length s
+      → r ≡ (sum + dword s at) % 2 ^ 32 → summed s r (at + 4) ≡ all
+  sum-turn sum at r w l e = sum-step sum r 0 sum r at (at + 4) w (omega arith) (omega arith) (omega arith) l e
 
   -- sixteen dwords are added to four sums, every fourth to the same
   pub sum-sixteen : (at next a b c d a₁ b₁ c₁ d₁ a₂ b₂ c₂ d₂ a₃ b₃ c₃ d₃ a₄ b₄ c₄ d₄ : ℕ)
-      → summed s (a + b + c + d) at ≡ dwordSum s → next ≡ at + 64 → next ≤ length s
+      → summed s (a + b + c + d) at ≡ all → next ≡ at + 64 → next ≤ length s
       → a₁ ≡ (a + dword s at) % 2 ^ 32 → b₁ ≡ (b + dword s (at + 4)) % 2 ^ 32
       → c₁ ≡ (c + dword s (at + 8)) % 2 ^ 32 → d₁ ≡ (d + dword s (at + 12)) % 2 ^ 32
       → a₂ ≡ (a₁ + dword s (at + 16)) % 2 ^ 32 → b₂ ≡ (b₁ + dword s (at + 20)) % 2 ^ 32
@@ -65,7 +80,7 @@ module _ (s : List ℕ) where
       → c₃ ≡ (c₂ + dword s (at + 40)) % 2 ^ 32 → d₃ ≡ (d₂ + dword s (at + 44)) % 2 ^ 32
       → a₄ ≡ (a₃ + dword s (at + 48)) % 2 ^ 32 → b₄ ≡ (b₃ + dword s (at + 52)) % 2 ^ 32
       → c₄ ≡ (c₃ + dword s (at + 56)) % 2 ^ 32 → d₄ ≡ (d₃ + dword s (at + 60)) % 2 ^ 32
-      → summed s (a₄ + b₄ + c₄ + d₄) next ≡ dwordSum s
+      → summed s (a₄ + b₄ + c₄ + d₄) next ≡ all
   sum-sixteen at next a b c d a₁ b₁ c₁ d₁ a₂ b₂ c₂ d₂ a₃ b₃ c₃ d₃ a₄ b₄ c₄ d₄ w n l e₁ f₁ g₁ h₁ e₂ f₂ g₂ h₂ e₃ f₃ g₃ h₃ e₄ f₄ g₄ h₄ =
       let w₁ = sum-step _ (a₁ + b + c + d) (b + c + d) a a₁ at (at + 4) w (omega arith) (omega arith) (omega arith) (omega arith) e₁ in
       let w₂ = sum-step _ (a₁ + b₁ + c + d) (a₁ + c + d) b b₁ (at + 4) (at + 8) w₁ (omega arith) (omega arith) (omega arith) (omega arith) f₁ in
@@ -84,31 +99,13 @@ module _ (s : List ℕ) where
       let w₁₅ = sum-step _ (a₄ + b₄ + c₄ + d₃) (a₄ + b₄ + d₃) c₃ c₄ (at + 56) (at + 60) w₁₄ (omega arith) (omega arith) (omega arith) (omega arith) g₄ in
       sum-step _ (a₄ + b₄ + c₄ + d₄) (a₄ + b₄ + c₄) d₃ d₄ (at + 60) next w₁₅ (omega arith) (omega arith) (omega arith) (omega arith) h₄
 
-  -- two of several sums become one, t in all before and u after
-  sum-join : (t u others a b r at : ℕ) → summed s t at ≡ dwordSum s → t ≡ others + (a + b) → u ≡ others + r
-      → r ≡ (a + b) % 2 ^ 32 → summed s u at ≡ dwordSum s
-  unfolding summed
-  sum-join t u others a b r at w e f g = omega arith
-
   -- four sums become two, x and y, and these one
-  pub sum-four : (at a b c d x y r : ℕ) → summed s (a + b + c + d) at ≡ dwordSum s
-      → x ≡ (a + b) % 2 ^ 32 → y ≡ (c + d) % 2 ^ 32 → r ≡ (x + y) % 2 ^ 32 → summed s r at ≡ dwordSum s
+  pub sum-four : (at a b c d x y r : ℕ) → summed s (a + b + c + d) at ≡ all
+      → x ≡ (a + b) % 2 ^ 32 → y ≡ (c + d) % 2 ^ 32 → r ≡ (x + y) % 2 ^ 32 → summed s r at ≡ all
   sum-four at a b c d x y r w e f g =
       let v = sum-join _ (x + c + d) (c + d) a b x at w (omega arith) (omega arith) e in
       let u = sum-join _ (x + y) x c d y at v (omega arith) (omega arith) f in
       sum-join _ r 0 x y r at u (omega arith) (omega arith) g
-
-  -- the rest, one a turn
-  pub sum-turn : (sum at r : ℕ) → summed s sum at ≡ dwordSum s → at + 4 ≤ length s
-      → r ≡ (sum + dword s at) % 2 ^ 32 → summed s r (at + 4) ≡ dwordSum s
-  sum-turn sum at r w l e = sum-step sum r 0 sum r at (at + 4) w (omega arith) (omega arith) (omega arith) l e
-
-  pub sum-end : (sum at : ℕ) → summed s sum at ≡ dwordSum s → length s < at + 4 → sum < 2 ^ 32 → sum ≡ dwordSum s
-  unfolding summed
-  sum-end sum at w l b =
-      let h = length-drop at s in
-      let k = none (drop at s) (omega arith) in
-      omega arith
 
 total-append : (n : ℕ) (a b : List ℕ) → length a ≡ 4 * n → total (dwordsOf (a ++ b)) ≡ total (dwordsOf a) + total (dwordsOf b)
 unfolding dwordsOf total

@@ -3,7 +3,7 @@ ghost use mathlib.Core.Path.{_≡_};
 ghost use Prim.Native.Nat.{_+_, _%_, _/_, _^_, _≤_, _<_, min};
 ghost use lib.ListN.{length, getD};
 ghost use Rattle.bytes_dwords.specs.Dword.{dword};
-ghost use Rattle.bytes_dwords.specs.Sum.{dwordSum};
+ghost use Rattle.bytes_dwords.specs.Sum.{dwordSum, summed};
 
 // A byte as a 32-bit number.
 pub fn wide(x: u8) -> u32
@@ -65,7 +65,21 @@ fn add_dword(sum: u32, s: &[u8], at: usize) -> u32
     std::num::wrapping_add_u32(sum, dword_inside(s, at))
 }
 
-// How often `length` bytes have sixteen dwords, in 32 bits: at most FFFFFFFFh.
+// A sum with the dwords from byte `at` on added to it, one a turn.
+fn add_rest(sum: u32, s: &[u8], at: usize) -> u32
+    requires { ⌜ at ≤ length (now s) ⌝ }
+    ensures { λ r. ⌜ r ≡ summed (now (s .entry)) sum at ⌝ }
+{
+    let mut total = sum;
+    let mut next = at;
+    while s.len() - next >= 4 {
+        total = add_dword(total, s, next);
+        next += 4;
+    }
+    total
+}
+
+// How many turns of sixteen dwords `length` bytes have, at most FFFFFFFFh.
 fn turns_in(length: usize) -> u32
     ensures { λ r. ⌜ r ≡ min (length / 64) 4294967295 ⌝ }
 {
@@ -78,8 +92,9 @@ fn turns_in(length: usize) -> u32
 }
 
 // The sum of the dwords of a slice, modulo 2^32. It wraps on purpose. Up to three bytes at the end that are no whole dword don't count.
-// A turn adds sixteen dwords, every fourth to the same of four sums, so that an addition needn't wait for the one before it. The rest
-// follows, one a turn. Turns are counted in 32 bits, since IA-32 adds 64 in two steps; a rest that is longer for it is summed all the same.
+//
+// A turn adds sixteen dwords to four sums, every fourth to the same, so that an addition needn't wait for the one before it. Turns are
+// counted in 32 bits, which IA-32 does in one step. What they leave is added one dword a turn.
 pub fn sum(s: &[u8]) -> u32
     ensures { λ r. ⌜ r ≡ dwordSum (now (s .entry)) ⌝ }
 {
@@ -109,14 +124,7 @@ pub fn sum(s: &[u8]) -> u32
         d = add_dword(d, s, at + 60);
         turn += 1;
     }
-    let mut sum = std::num::wrapping_add_u32(
-        std::num::wrapping_add_u32(a, b),
-        std::num::wrapping_add_u32(c, d),
-    );
-    let mut at = 64 * (turns as usize);
-    while s.len() - at >= 4 {
-        sum = add_dword(sum, s, at);
-        at += 4;
-    }
-    sum
+    let ab = std::num::wrapping_add_u32(a, b);
+    let cd = std::num::wrapping_add_u32(c, d);
+    add_rest(std::num::wrapping_add_u32(ab, cd), s, 64 * (turns as usize))
 }

@@ -10,6 +10,7 @@ mod plain_form;
 mod random_calls;
 mod replay;
 mod stores;
+mod sums;
 mod updates;
 mod vectors;
 mod writes;

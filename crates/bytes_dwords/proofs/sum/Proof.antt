@@ -1,10 +1,9 @@
--- `bytes_dwords::sum` meets its contract. The loops' invariant: what is summed so far, with the dwords that are left, is the whole sum.
-use mathlib.Core.Path.{_≡_}
-use Prim.Native.Nat.{_+_, _*_, _-_, _<_, _≤_, _^_}
+-- `bytes_dwords::sum` meets its contract. The loop's invariant: what is summed so far, with the dwords that are left, is the whole sum.
+use mathlib.Core.Path.{_≡_, _∙_}
+use Prim.Native.Nat.{_+_, _*_, _-_, _≤_}
 use native.Mathlib.Omega.{arith}
-use lib.ListN.{length}
-use Rattle.bytes_dwords.specs.Sum.{dwordSum}
-use Rattle.bytes_dwords.specs.DwordSumLaws.{summed, sum-start, sum-sixteen, sum-four, sum-turn, sum-end}
+use Rattle.bytes_dwords.specs.Sum.{dwordSum, summed}
+use Rattle.bytes_dwords.specs.DwordSumLaws.{sum-start, sum-sixteen, sum-four}
 use Rattle.bytes_dwords.proofs.sum.Statement.{statement}
 use Rattle.bytes_dwords.proofs.sum.Tie as tie
 
@@ -14,14 +13,8 @@ Inv-loop s turns a₀ b₀ c₀ d₀ turn₀ a b c d turn = (summed s (a + b + c
 abbrev μ-loop : tie.MeasureT-loop
 μ-loop s turns a₀ b₀ c₀ d₀ turn₀ a b c d turn = turns - turn
 
-abbrev Inv-loop2 : tie.InvT-loop2
-Inv-loop2 s turns a b c d turn sum₀ at₀ sum at = (summed s sum at ≡ dwordSum s) × (at ≤ length s) × (sum < 2 ^ 32)
-
-abbrev μ-loop2 : tie.MeasureT-loop2
-μ-loop2 s turns a b c d turn sum₀ at₀ sum at = length s - at
-
 -- c₁ to c₁₅ stand behind the turn's dwords before the last
-loop-again : tie.Need-loop-again Inv-loop μ-loop Inv-loop2 μ-loop2
+loop-again : tie.Need-loop-again Inv-loop μ-loop
 loop-again c =
     let c₁₅ = c .before in
     let c₁₄ = c₁₅ .before in
@@ -40,7 +33,7 @@ loop-again c =
     let c₁ = c₂ .before in
     let c₀ = c₁ .before in
     let l = c₀ .before .loop in (
-      sum-sixteen _ (64 * l .turn) _ (l .a) (l .b) (l .c) (l .d) _ _ _ _ _ _ _ _ _ _ _ _ _ _ _ _ (l .inv .0) (omega arith) (omega (arith, c₀))
+      sum-sixteen _ _ (64 * l .turn) _ (l .a) (l .b) (l .c) (l .d) _ _ _ _ _ _ _ _ _ _ _ _ _ _ _ _ (l .inv .0) (omega arith) (omega (arith, c₀))
           (c₁ .add-dword .ensures) (c₂ .add-dword2 .ensures) (c₃ .add-dword3 .ensures) (c₄ .add-dword4 .ensures)
           (c₅ .add-dword5 .ensures) (c₆ .add-dword6 .ensures) (c₇ .add-dword7 .ensures) (c₈ .add-dword8 .ensures)
           (c₉ .add-dword9 .ensures) (c₁₀ .add-dword10 .ensures) (c₁₁ .add-dword11 .ensures) (c₁₂ .add-dword12 .ensures)
@@ -48,25 +41,17 @@ loop-again c =
       omega (arith, c₀),
     )
 
-loop2-holds : tie.Need-loop2-holds Inv-loop μ-loop Inv-loop2 μ-loop2
-loop2-holds c =
-    let l = c .before .before .before .before .loop in
-    let e : 64 * c .before .before .before .before .before .turns-in .result ≡ 64 * l .turn = omega arith in (
-      rw e
-          (sum-four _ (64 * l .turn) (l .a) (l .b) (l .c) (l .d) _ _ _ (l .inv .0)
-          (c .before .before .wrapping-add-u32 .ensures)
-          (c .before .wrapping-add-u322 .ensures)
-          (c .wrapping-add-u323 .ensures)),
-      omega arith,
-      omega arith,
-    )
-
-loop2-again : tie.Need-loop2-again Inv-loop μ-loop Inv-loop2 μ-loop2
-loop2-again c =
-    let l = c .before .before .loop2 in (sum-turn _ (l .sum) (l .at) _ (l .inv .0) (omega arith) (c .add-dword17 .ensures), omega arith, omega arith)
-
-returns : tie.Need-returns Inv-loop μ-loop Inv-loop2 μ-loop2
-returns c = let l = c .before .loop2 in sum-end _ (l .sum) (l .at) (l .inv .0) (omega arith) (l .inv .2)
+-- the turns end where the rest begins
+returns : tie.Need-returns Inv-loop μ-loop
+returns c =
+    let l = c .before .before .before .before .before .loop in
+    let e : 64 * c .before .before .before .before .before .before .turns-in .result ≡ 64 * l .turn = omega arith in
+    c .add-rest .ensures
+    ∙ rw e
+    (sum-four _ _ (64 * l .turn) (l .a) (l .b) (l .c) (l .d) _ _ _ (l .inv .0)
+    (c .before .before .before .wrapping-add-u32 .ensures)
+    (c .before .before .wrapping-add-u322 .ensures)
+    (c .before .wrapping-add-u323 .ensures))
 
 pub sum-spec : {M : Type 1} → statement M
 sum-spec =
@@ -74,8 +59,6 @@ sum-spec =
     (tie.spec
     Inv-loop
     μ-loop
-    Inv-loop2
-    μ-loop2
     (λ c κs. tt)
     (λ c. (sum-start _, omega arith))
     (λ c. omega arith)
@@ -119,10 +102,5 @@ sum-spec =
     (λ c κs. tt)
     (λ c. omega arith)
     (λ c. omega arith)
-    loop2-holds
-    (λ c. omega arith)
     (λ c κs. omega arith)
-    (λ c. omega arith)
-    (λ c. omega arith)
-    loop2-again
     returns)
