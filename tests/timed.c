@@ -6,6 +6,8 @@
 #include <string.h>
 #include <time.h>
 
+#include "plain_sum.h"
+
 enum { ROUNDS = 40 };
 
 static const double ROUND = 200000; /* nanoseconds that a round is to take */
@@ -59,6 +61,11 @@ uint32_t load_indexed(void)
     uint32_t answer[UPDATE_STORE_ANSWER_WORDS];
     return update_store_load_indexed(work.loading, own_index, store, work.blocks * BLOCK,
                                      work.signature, work.platform, answer);
+}
+
+uint32_t sum_store(void)
+{
+    return plain_sum(store, work.blocks * BLOCK);
 }
 
 /* ---- The time ---- */

@@ -33,6 +33,9 @@ uint32_t carry_index(void);     /* over a write of 16 blocks that empties 16 */
 uint32_t read_indexed(void);
 uint32_t load_indexed(void);
 
+/* No call: the sum of the store in plain C, 0 for one update without a table. */
+uint32_t sum_store(void);
+
 /* Writes the line of the work, whose result has to be `ax`. */
 void tell(const char *name, uint32_t ax);
 

@@ -72,6 +72,9 @@ static void presence_rows(void)
     unused(1);
     put_p(store, 7);
     tell("presence, one update of 2 KB", 0);
+    unused(8);
+    put_update(store, 1, 0x700, 1, 8);
+    tell("presence, one update of 16 KB", 0);
     unused(16);
     put_update(store, 1, 0x700, 1, 16);
     tell("presence, one update of 32 KB", 0);
@@ -91,6 +94,22 @@ static void presence_rows(void)
     put_update(store, 1, 0x1000, 65, 16);
     put_update(store + 16 * BLOCK, 1, 0x2000, 65, 16);
     tell("presence, two of 32 KB with 64 entries", 0);
+}
+
+/* The loop of the presence calls of one update, by the C compiler. */
+static void plain_rows(void)
+{
+    begin(UPDATE_STORE_SUB_PRESENCE);
+    work.turn = sum_store;
+    unused(1);
+    put_p(store, 7);
+    tell("the sum of 2 KB in plain C", 0);
+    unused(8);
+    put_update(store, 1, 0x700, 1, 8);
+    tell("the sum of 16 KB in plain C", 0);
+    unused(16);
+    put_update(store, 1, 0x700, 1, 16);
+    tell("the sum of 32 KB in plain C", 0);
 }
 
 static void tell_how(const char *name, const char *how)
@@ -174,6 +193,7 @@ static void last_rows(void)
 int main(void)
 {
     presence_rows();
+    plain_rows();
     read_and_load_rows(call, load, "");
     index_rows();
     read_and_load_rows(read_indexed, load_indexed, ", indexed");

@@ -5,9 +5,10 @@ cd "$(dirname "$0")/.."
 . tests/programs.sh
 
 RUNS=${RUNS:-5}
+sources='tests/times.c tests/timed.c tests/plain_sum.c tests/update.c tests/random.c'
 make_archives
-build_host times 'tests/times.c tests/timed.c tests/update.c tests/random.c'
-build_board times 'tests/times.c tests/timed.c tests/update.c tests/random.c'
+build_host times "$sources"
+build_board times "$sources"
 
 run=0
 while [ "$run" -lt "$RUNS" ]; do

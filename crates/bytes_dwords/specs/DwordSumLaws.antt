@@ -3,7 +3,7 @@
 --   sum-turn                  a loop that adds one dword a turn
 --   sum-sixteen, sum-four     a loop that adds sixteen dwords a turn to four sums, and the four as one
 --   sum-append                the sum of two parts, the first of whole dwords
-use Prim.Native.Nat.{ℕ, zero, suc, _+_, _*_, _/_, _%_, _^_, _<_, _≤_}
+use Prim.Native.Nat.{ℕ, zero, suc, _+_, _*_, _%_, _^_, _<_, _≤_}
 use mathlib.Core.Path.{_≡_, refl}
 use mathlib.Core.List.{List, [], _∷_, _++_}
 use native.Mathlib.Omega.{arith}
@@ -11,7 +11,8 @@ use lib.ListN.{length, drop, length-drop}
 use lib.Seq.{drop-drop}
 use Rattle.bytes_dwords.specs.Dword.{dword}
 use Rattle.bytes_dwords.specs.DwordLaws.{dword-drop}
-use Rattle.bytes_dwords.specs.Sum.{dwordsOf, total, dwordSum, summed}
+use Rattle.bytes_dwords.specs.Sum.{dwordsOf, total, dwordSum}
+use Rattle.bytes_dwords.specs.Summed.{summed}
 
 -- one dword off the front, and the end
 front : (s : List ℕ) → 4 ≤ length s → total (dwordsOf s) ≡ dword s 0 + total (dwordsOf (drop 4 s))
@@ -69,6 +70,17 @@ module _ (s : List ℕ) (all : ℕ) where
       → r ≡ (sum + dword s at) % 2 ^ 32 → summed s r (at + 4) ≡ all
   sum-turn sum at r w l e = sum-step sum r 0 sum r at (at + 4) w (omega arith) (omega arith) (omega arith) l e
 
+  -- four dwords are added to four sums, one to each
+  sum-row : (at p q r next a b c d a₁ b₁ c₁ d₁ : ℕ) → summed s (a + b + c + d) at ≡ all
+      → p ≡ at + 4 → q ≡ at + 8 → r ≡ at + 12 → next ≡ at + 16 → next ≤ length s
+      → a₁ ≡ (a + dword s at) % 2 ^ 32 → b₁ ≡ (b + dword s p) % 2 ^ 32
+      → c₁ ≡ (c + dword s q) % 2 ^ 32 → d₁ ≡ (d + dword s r) % 2 ^ 32 → summed s (a₁ + b₁ + c₁ + d₁) next ≡ all
+  sum-row at p q r next a b c d a₁ b₁ c₁ d₁ w x y z n l e f g h =
+      let u = sum-step _ (a₁ + b + c + d) (b + c + d) a a₁ at p w (omega arith) (omega arith) (omega arith) (omega arith) e in
+      let v = sum-step _ (a₁ + b₁ + c + d) (a₁ + c + d) b b₁ p q u (omega arith) (omega arith) (omega arith) (omega arith) f in
+      let k = sum-step _ (a₁ + b₁ + c₁ + d) (a₁ + b₁ + d) c c₁ q r v (omega arith) (omega arith) (omega arith) (omega arith) g in
+      sum-step _ (a₁ + b₁ + c₁ + d₁) (a₁ + b₁ + c₁) d d₁ r next k (omega arith) (omega arith) (omega arith) (omega arith) h
+
   -- sixteen dwords are added to four sums, every fourth to the same
   pub sum-sixteen : (at next a b c d a₁ b₁ c₁ d₁ a₂ b₂ c₂ d₂ a₃ b₃ c₃ d₃ a₄ b₄ c₄ d₄ : ℕ)
       → summed s (a + b + c + d) at ≡ all → next ≡ at + 64 → next ≤ length s
@@ -82,22 +94,10 @@ module _ (s : List ℕ) (all : ℕ) where
       → c₄ ≡ (c₃ + dword s (at + 56)) % 2 ^ 32 → d₄ ≡ (d₃ + dword s (at + 60)) % 2 ^ 32
       → summed s (a₄ + b₄ + c₄ + d₄) next ≡ all
   sum-sixteen at next a b c d a₁ b₁ c₁ d₁ a₂ b₂ c₂ d₂ a₃ b₃ c₃ d₃ a₄ b₄ c₄ d₄ w n l e₁ f₁ g₁ h₁ e₂ f₂ g₂ h₂ e₃ f₃ g₃ h₃ e₄ f₄ g₄ h₄ =
-      let w₁ = sum-step _ (a₁ + b + c + d) (b + c + d) a a₁ at (at + 4) w (omega arith) (omega arith) (omega arith) (omega arith) e₁ in
-      let w₂ = sum-step _ (a₁ + b₁ + c + d) (a₁ + c + d) b b₁ (at + 4) (at + 8) w₁ (omega arith) (omega arith) (omega arith) (omega arith) f₁ in
-      let w₃ = sum-step _ (a₁ + b₁ + c₁ + d) (a₁ + b₁ + d) c c₁ (at + 8) (at + 12) w₂ (omega arith) (omega arith) (omega arith) (omega arith) g₁ in
-      let w₄ = sum-step _ (a₁ + b₁ + c₁ + d₁) (a₁ + b₁ + c₁) d d₁ (at + 12) (at + 16) w₃ (omega arith) (omega arith) (omega arith) (omega arith) h₁ in
-      let w₅ = sum-step _ (a₂ + b₁ + c₁ + d₁) (b₁ + c₁ + d₁) a₁ a₂ (at + 16) (at + 20) w₄ (omega arith) (omega arith) (omega arith) (omega arith) e₂ in
-      let w₆ = sum-step _ (a₂ + b₂ + c₁ + d₁) (a₂ + c₁ + d₁) b₁ b₂ (at + 20) (at + 24) w₅ (omega arith) (omega arith) (omega arith) (omega arith) f₂ in
-      let w₇ = sum-step _ (a₂ + b₂ + c₂ + d₁) (a₂ + b₂ + d₁) c₁ c₂ (at + 24) (at + 28) w₆ (omega arith) (omega arith) (omega arith) (omega arith) g₂ in
-      let w₈ = sum-step _ (a₂ + b₂ + c₂ + d₂) (a₂ + b₂ + c₂) d₁ d₂ (at + 28) (at + 32) w₇ (omega arith) (omega arith) (omega arith) (omega arith) h₂ in
-      let w₉ = sum-step _ (a₃ + b₂ + c₂ + d₂) (b₂ + c₂ + d₂) a₂ a₃ (at + 32) (at + 36) w₈ (omega arith) (omega arith) (omega arith) (omega arith) e₃ in
-      let w₁₀ = sum-step _ (a₃ + b₃ + c₂ + d₂) (a₃ + c₂ + d₂) b₂ b₃ (at + 36) (at + 40) w₉ (omega arith) (omega arith) (omega arith) (omega arith) f₃ in
-      let w₁₁ = sum-step _ (a₃ + b₃ + c₃ + d₂) (a₃ + b₃ + d₂) c₂ c₃ (at + 40) (at + 44) w₁₀ (omega arith) (omega arith) (omega arith) (omega arith) g₃ in
-      let w₁₂ = sum-step _ (a₃ + b₃ + c₃ + d₃) (a₃ + b₃ + c₃) d₂ d₃ (at + 44) (at + 48) w₁₁ (omega arith) (omega arith) (omega arith) (omega arith) h₃ in
-      let w₁₃ = sum-step _ (a₄ + b₃ + c₃ + d₃) (b₃ + c₃ + d₃) a₃ a₄ (at + 48) (at + 52) w₁₂ (omega arith) (omega arith) (omega arith) (omega arith) e₄ in
-      let w₁₄ = sum-step _ (a₄ + b₄ + c₃ + d₃) (a₄ + c₃ + d₃) b₃ b₄ (at + 52) (at + 56) w₁₃ (omega arith) (omega arith) (omega arith) (omega arith) f₄ in
-      let w₁₅ = sum-step _ (a₄ + b₄ + c₄ + d₃) (a₄ + b₄ + d₃) c₃ c₄ (at + 56) (at + 60) w₁₄ (omega arith) (omega arith) (omega arith) (omega arith) g₄ in
-      sum-step _ (a₄ + b₄ + c₄ + d₄) (a₄ + b₄ + c₄) d₃ d₄ (at + 60) next w₁₅ (omega arith) (omega arith) (omega arith) (omega arith) h₄
+      let x = sum-row at _ _ _ (at + 16) a b c d _ _ _ _ w (omega arith) (omega arith) (omega arith) (omega arith) (omega arith) e₁ f₁ g₁ h₁ in
+      let y = sum-row (at + 16) _ _ _ (at + 32) a₁ b₁ c₁ d₁ _ _ _ _ x (omega arith) (omega arith) (omega arith) (omega arith) (omega arith) e₂ f₂ g₂ h₂ in
+      let z = sum-row (at + 32) _ _ _ (at + 48) a₂ b₂ c₂ d₂ _ _ _ _ y (omega arith) (omega arith) (omega arith) (omega arith) (omega arith) e₃ f₃ g₃ h₃ in
+      sum-row (at + 48) _ _ _ next a₃ b₃ c₃ d₃ _ _ _ _ z (omega arith) (omega arith) (omega arith) (omega arith) (omega arith) e₄ f₄ g₄ h₄
 
   -- four sums become two, x and y, and these one
   pub sum-four : (at a b c d x y r : ℕ) → summed s (a + b + c + d) at ≡ all

@@ -2,10 +2,8 @@
 --   dwordsOf      the dwords of a list of bytes, in order
 --   total         the sum of a list of numbers
 --   dwordSum      the sum of the dwords of a list of bytes, modulo 2^32
---   summed        a sum with the dwords from byte `at` on added to it
 use Prim.Native.Nat.{ℕ, _+_, _%_, _^_}
 use mathlib.Core.List.{List, [], _∷_}
-use lib.ListN.{drop}
 use Rattle.bytes_dwords.specs.Dword.{little}
 
 -- the dwords of a list of bytes; up to three bytes at its end that are no whole dword don't count
@@ -22,6 +20,3 @@ total (x ∷ l) = x + total l
 
 unfoldable pub dwordSum : List ℕ → ℕ
 dwordSum s = total (dwordsOf s) % 2 ^ 32
-
-unfoldable pub summed : List ℕ → ℕ → ℕ → ℕ
-summed s sum at = (sum + dwordSum (drop at s)) % 2 ^ 32

@@ -3,7 +3,8 @@ ghost use mathlib.Core.Path.{_≡_};
 ghost use Prim.Native.Nat.{_+_, _%_, _/_, _^_, _≤_, _<_, min};
 ghost use lib.ListN.{length, getD};
 ghost use Rattle.bytes_dwords.specs.Dword.{dword};
-ghost use Rattle.bytes_dwords.specs.Sum.{dwordSum, summed};
+ghost use Rattle.bytes_dwords.specs.Sum.{dwordSum};
+ghost use Rattle.bytes_dwords.specs.Summed.{summed};
 
 // A byte as a 32-bit number.
 pub fn wide(x: u8) -> u32

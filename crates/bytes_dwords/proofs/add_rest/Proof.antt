@@ -3,7 +3,7 @@ use mathlib.Core.Path.{_≡_, refl, _∙_}
 use Prim.Native.Nat.{_-_, _<_, _≤_, _^_}
 use native.Mathlib.Omega.{arith}
 use lib.ListN.{length}
-use Rattle.bytes_dwords.specs.Sum.{summed}
+use Rattle.bytes_dwords.specs.Summed.{summed}
 use Rattle.bytes_dwords.specs.DwordSumLaws.{sum-turn, sum-end}
 use Rattle.bytes_dwords.proofs.add_rest.Statement.{statement}
 use Rattle.bytes_dwords.proofs.add_rest.Tie as tie

@@ -2,7 +2,8 @@
 use mathlib.Core.Path.{_≡_, _∙_}
 use Prim.Native.Nat.{_+_, _*_, _-_, _≤_}
 use native.Mathlib.Omega.{arith}
-use Rattle.bytes_dwords.specs.Sum.{dwordSum, summed}
+use Rattle.bytes_dwords.specs.Sum.{dwordSum}
+use Rattle.bytes_dwords.specs.Summed.{summed}
 use Rattle.bytes_dwords.specs.DwordSumLaws.{sum-start, sum-sixteen, sum-four}
 use Rattle.bytes_dwords.proofs.sum.Statement.{statement}
 use Rattle.bytes_dwords.proofs.sum.Tie as tie
