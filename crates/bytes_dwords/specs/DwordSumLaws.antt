@@ -66,9 +66,9 @@ module _ (s : List ℕ) (all : ℕ) where
   unfolding summed
   sum-join t u others a b r at w e f g = omega arith
 
-  pub sum-turn : (sum at r : ℕ) → summed s sum at ≡ all → at + 4 ≤ length s
-      → r ≡ (sum + dword s at) % 2 ^ 32 → summed s r (at + 4) ≡ all
-  sum-turn sum at r w l e = sum-step sum r 0 sum r at (at + 4) w (omega arith) (omega arith) (omega arith) l e
+  pub sum-turn : (sum at next r : ℕ) → summed s sum at ≡ all → next ≡ at + 4 → next ≤ length s
+      → r ≡ (sum + dword s at) % 2 ^ 32 → summed s r next ≡ all
+  sum-turn sum at next r w n l e = sum-step sum r 0 sum r at next w (omega arith) (omega arith) n l e
 
   -- four dwords are added to four sums, one to each
   sum-row : (at p q r next a b c d a₁ b₁ c₁ d₁ : ℕ) → summed s (a + b + c + d) at ≡ all

@@ -1,6 +1,6 @@
 // Little-endian 32-bit numbers in a byte slice, and their sum modulo 2^32.
 ghost use mathlib.Core.Path.{_≡_};
-ghost use Prim.Native.Nat.{_+_, _%_, _/_, _^_, _≤_, _<_, min};
+ghost use Prim.Native.Nat.{_+_, _*_, _%_, _/_, _^_, _≤_, _<_, min};
 ghost use lib.ListN.{length, getD};
 ghost use Rattle.bytes_dwords.specs.Dword.{dword};
 ghost use Rattle.bytes_dwords.specs.Sum.{dwordSum};
@@ -66,16 +66,16 @@ fn add_dword(sum: u32, s: &[u8], at: usize) -> u32
     std::num::wrapping_add_u32(sum, dword_inside(s, at))
 }
 
-// A sum with the dwords from byte `at` on added to it, one a turn.
-fn add_rest(sum: u32, s: &[u8], at: usize) -> u32
-    requires { ⌜ at ≤ length (now s) ⌝ }
-    ensures { λ r. ⌜ r ≡ summed (now (s .entry)) sum at ⌝ }
+// A sum with the dwords from dword `i` on added to it, one a turn.
+fn add_rest(sum: u32, s: &[u8], i: usize) -> u32
+    ensures { λ r. ⌜ r ≡ summed (now (s .entry)) sum (4 * i) ⌝ }
 {
+    let n = s.len() / 4;
     let mut total = sum;
-    let mut next = at;
-    while s.len() - next >= 4 {
-        total = add_dword(total, s, next);
-        next += 4;
+    let mut next = i;
+    while next < n {
+        total = add_dword(total, s, 4 * next);
+        next += 1;
     }
     total
 }
@@ -127,5 +127,5 @@ pub fn sum(s: &[u8]) -> u32
     }
     let ab = std::num::wrapping_add_u32(a, b);
     let cd = std::num::wrapping_add_u32(c, d);
-    add_rest(std::num::wrapping_add_u32(ab, cd), s, 64 * (turns as usize))
+    add_rest(std::num::wrapping_add_u32(ab, cd), s, 16 * (turns as usize))
 }

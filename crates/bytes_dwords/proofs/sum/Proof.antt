@@ -46,7 +46,7 @@ loop-again c =
 returns : tie.Need-returns Inv-loop μ-loop
 returns c =
     let l = c .before .before .before .before .before .loop in
-    let e : 64 * c .before .before .before .before .before .before .turns-in .result ≡ 64 * l .turn = omega arith in
+    let e : 4 * (16 * c .before .before .before .before .before .before .turns-in .result) ≡ 64 * l .turn = omega arith in
     c .add-rest .ensures
     ∙ rw e
     (sum-four _ _ (64 * l .turn) (l .a) (l .b) (l .c) (l .d) _ _ _ (l .inv .0)
@@ -103,5 +103,5 @@ sum-spec =
     (λ c κs. tt)
     (λ c. omega arith)
     (λ c. omega arith)
-    (λ c κs. omega arith)
+    (λ c κs. tt)
     returns)
