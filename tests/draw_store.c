@@ -131,24 +131,29 @@ static void put_over(struct lent *store, uint32_t block, const struct update *up
     memcpy(store->bytes + block * BLOCK, bytes, whole < room ? whole : room);
 }
 
-/* A damaged update, one update at two places, or one that doesn't fit any more. */
+/*
+ * One update at two places, one that doesn't fit any more, a damaged one, or one whose rest begins
+ * late, if it leaves a rest.
+ */
 static void spoil_contents(struct lent *store, uint32_t blocks)
 {
     struct update update = { .pair_count = 2 };
     uint32_t width = between(1, blocks < 16 ? blocks : 16);
-    uint32_t kind = below(4);
+    uint32_t kind = below(5);
     update.pairs[0] = usual_processor();
     update.pairs[1] = usual_processor();
     if (kind == 0)
         width = 1;
     draw_update(&update, kind == 1 ? 2 : width);
-    if (kind > 1)
+    if (kind == 2 || kind == 3)
         damage_update(&update);
     if (chance(50))
         memset(store->bytes, 0xFF, store->length);
     put_over(store, kind == 1 ? blocks - 1 : 0, &update);
     if (kind == 0)
         put_over(store, blocks - 1, &update);
+    if (kind == 4 && update.length % BLOCK != 0)
+        store->bytes[update.length] = (uint8_t)below(255);
 }
 
 static void spoil_store(struct lent *store, uint32_t blocks)

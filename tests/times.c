@@ -12,15 +12,22 @@
 /* ---- Updates and stores ---- */
 
 /* An update whose pairs have signatures in a row and platform 0. */
-static uint32_t put_update(uint8_t *at, uint32_t revision, uint32_t signature, uint32_t pairs,
-                           uint32_t blocks)
+static void put_sized(uint8_t *at, uint32_t revision, uint32_t signature, uint32_t pairs,
+                      uint32_t length)
 {
     struct update update = { .pair_count = pairs };
     for (uint32_t i = 0; i < pairs; i++)
         update.pairs[i] = (struct pair){ signature + i, 1 };
-    update_sized(&update, revision, blocks * BLOCK);
+    update_sized(&update, revision, length);
     update_build(&update, at);
-    return update.length;
+}
+
+/* The same of whole blocks. */
+static uint32_t put_update(uint8_t *at, uint32_t revision, uint32_t signature, uint32_t pairs,
+                           uint32_t blocks)
+{
+    put_sized(at, revision, signature, pairs, blocks * BLOCK);
+    return blocks * BLOCK;
 }
 
 /* Document 01's P: platforms 1 and 2 of 650h, size fields 0. */
@@ -80,6 +87,9 @@ static void presence_rows(void)
     tell("presence, one update of 32 KB", 0);
     one_block_updates(1, 65);
     tell("presence, 2 KB with 64 entries", 0);
+    unused(1);
+    put_sized(store, 1, 0x1000, 2, 2044);
+    tell("presence, 2,044 bytes with one entry", 0);
     one_block_updates(1, 1);
     tell("presence, one-block updates, N = 1", 0);
     one_block_updates(8, 1);

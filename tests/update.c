@@ -31,15 +31,16 @@ static void put(uint8_t *bytes, uint32_t at, uint32_t number)
     memcpy(bytes + at, &number, 4);
 }
 
+/* Of the whole dwords. */
 static uint32_t sum(const uint8_t *bytes, uint32_t length)
 {
     uint32_t total = 0;
-    for (uint32_t at = 0; at < length; at += 4)
+    for (uint32_t at = 0; at + 4 <= length; at += 4)
         total += dword(bytes, at);
     return total;
 }
 
-static uint32_t table_length(uint32_t pair_count)
+uint32_t table_length(uint32_t pair_count)
 {
     return pair_count > 1 ? TABLE + ENTRY * (pair_count - 1) : 0;
 }
@@ -81,7 +82,7 @@ static void build_data(const struct update *update, uint8_t *bytes, uint32_t end
 {
     memset(bytes + HEADER, update->data == DATA_ZERO ? 0 : 0xFF, end - HEADER);
     if (update->data == DATA_RANDOM) {
-        for (uint32_t at = HEADER; at < end; at += 4)
+        for (uint32_t at = HEADER; at + 4 <= end; at += 4)
             put(bytes, at, random_word());
     } else if (update->data == DATA_LIKE_UPDATES) {
         for (uint32_t at = BLOCK; at + HEADER <= end; at += BLOCK)

@@ -39,7 +39,10 @@ struct update {
     uint32_t entry_off;                 /* what the last entry's checksum has too much */
 };
 
-/* Sets all but the pairs: a good update of this length. */
+/* The table of so many pairs; one pair needs none. */
+uint32_t table_length(uint32_t pair_count);
+
+/* Sets all but the pairs: an update of this length, a good one if that is right. */
 void update_sized(struct update *update, uint32_t revision, uint32_t length);
 
 /* Writes the bytes, `length` of them. */

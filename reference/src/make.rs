@@ -39,11 +39,7 @@ pub struct Recipe {
 impl Recipe {
     /// An update of a total size, with a table if there is more than one pair.
     pub fn new(revision: u32, pairs: &[Pair], total: usize) -> Recipe {
-        let table = match pairs.len() - 1 {
-            0 => 0,
-            entries => 20 + 12 * entries,
-        };
-        let data_bytes = total - 48 - table;
+        let data_bytes = total - 48 - table_length(pairs);
         Recipe {
             version: 1,
             revision,
@@ -70,9 +66,14 @@ impl Recipe {
         }
     }
 
+    /// How many bytes there are.
+    pub fn length(&self) -> usize {
+        48 + self.data_bytes + table_length(&self.pairs)
+    }
+
     /// The update's bytes.
     pub fn build(&self) -> Vec<u8> {
-        let mut bytes = Vec::with_capacity(48 + self.data_bytes + 20 + 12 * self.pairs.len());
+        let mut bytes = Vec::with_capacity(self.length());
         let (signature, flags) = self.pairs[0];
         put(&mut bytes, self.version);
         put(&mut bytes, self.revision);
@@ -86,7 +87,9 @@ impl Recipe {
         bytes.extend_from_slice(&self.reserved);
         bytes.extend(self.data.iter().cycle().take(self.data_bytes));
 
-        // The table comes to wrong.table, so the rest has to make up the total.
+        // The table comes to wrong.table, so the rest has to make up the total. Where D
+        // is no multiple of 4, the bytes behind the last whole dword don't count.
+        let dwords = bytes.len() / 4 * 4;
         let table_sum = if self.pairs.len() > 1 {
             self.wrong.table
         } else {
@@ -96,7 +99,7 @@ impl Recipe {
             .wrong
             .total
             .wrapping_sub(table_sum)
-            .wrapping_sub(sum(&bytes));
+            .wrapping_sub(sum(&bytes[..dwords]));
         set(&mut bytes, 16, checksum);
         if self.pairs.len() > 1 {
             self.build_table(&mut bytes, checksum);
@@ -123,6 +126,14 @@ impl Recipe {
         }
         let rest = sum(&bytes[table..]);
         set(bytes, table + 4, self.wrong.table.wrapping_sub(rest));
+    }
+}
+
+/// The length of the table that the pairs ask for.
+fn table_length(pairs: &[Pair]) -> usize {
+    match pairs.len() - 1 {
+        0 => 0,
+        entries => 20 + 12 * entries,
     }
 }
 

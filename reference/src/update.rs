@@ -70,10 +70,15 @@ pub fn sizes(data_field: u32, total_field: u32) -> Option<Sizes> {
     }
     let data = u64::from(data_field);
     let total = u64::from(total_field);
-    if !data.is_multiple_of(4) || !total.is_multiple_of(1024) || total > 32_768 {
+    if !data.is_multiple_of(4) || total > 32_768 {
         return None;
     }
     let entries = (0..=64).find(|&n| total == 48 + data + table_length(n))?;
+    // With a table T needs only a multiple of 4, without one a multiple of 1,024.
+    let unit = if entries == 0 { 1024 } else { 4 };
+    if !total.is_multiple_of(unit) {
+        return None;
+    }
     Some(Sizes {
         data,
         total,

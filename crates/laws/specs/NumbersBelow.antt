@@ -2,6 +2,7 @@
 --   itself           a number stands for itself
 --   listBelow        the list
 --   NumbersBelow, numbers-below   what it is, beside the list of the numbers themselves
+--   list-cong        two tests that agree below n, and two values for each number that passes, give one list
 use Prim.Native.Nat.{ℕ, zero, suc, _<_, _≤_}
 use mathlib.Core.Path.{_≡_, refl, sym, _∙_}
 use mathlib.Core.Bool.{Bool, true, false, cond, true≢false}
@@ -96,3 +97,13 @@ numbers-below p f (suc n) = go (p n) refl (numbers-below p f n)
         → NumbersBelow p f (suc n) (cond t (listBelow p itself n ++ (n ∷ [])) (listBelow p itself n)) (cond t (listBelow p f n ++ (f n ∷ [])) (listBelow p f n))
     go true e h = taken p f n (listBelow p itself n) (listBelow p f n) h e
     go false e h = skipped p f n (listBelow p itself n) (listBelow p f n) h e
+
+pub list-cong : (p q : ℕ → Bool) (f g : ℕ → ℕ) (n : ℕ) → ((b : ℕ) → b < n → p b ≡ q b) → ((b : ℕ) → b < n → q b ≡ true → f b ≡ g b) → listBelow p f n ≡ listBelow q g n
+unfolding listBelow
+list-cong p q f g zero h k = refl
+list-cong p q f g (suc n) h k =
+    rw (h n (omega arith), list-cong p q f g n (λ b l. h b (omega arith)) (λ b l. k b (omega arith))) (go (q n) refl)
+  where
+    go : (t : Bool) → q n ≡ t → cond t (listBelow q g n ++ (f n ∷ [])) (listBelow q g n) ≡ cond t (listBelow q g n ++ (g n ∷ [])) (listBelow q g n)
+    go true e = rw (k n (omega arith) e)
+    go false e = refl

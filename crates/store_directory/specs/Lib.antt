@@ -14,3 +14,5 @@ pub mod ValidLaws
 pub mod KindLaws
 pub mod DirectoryLaws
 pub mod PairedLaws
+pub mod OldStores
+pub mod OldStoreLaws

@@ -5,10 +5,12 @@ mod indexed;
 mod indexes;
 mod lines;
 mod numbers;
+mod tables;
 mod writes;
 
 fn main() {
     writes::run();
+    tables::run();
     calls::run();
     indexes::run();
     carried::run();

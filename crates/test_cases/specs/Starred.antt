@@ -1,17 +1,18 @@
--- The starred cases of document 01, "Examples at the edges": one table under one statement.
+-- The starred cases of document 01, "Examples at the edges", and the sizes of document 02, Three: one table under one statement.
 --   p          the update P, with a revision and a checksum
 --   codeOf     the AH that document 01 gives for the verdict on bytes
 --   Code       the AH of all bytes with these sizes and this count field
 --   answer     what check 8 finds, of stored updates by start, size and marks
 --   Starred    the table, a line for each case
-use Prim.Native.Nat.{ℕ, _%_, _/_, _^_, _<_}
+use Prim.Native.Nat.{ℕ, _%_, _/_, _^_, _<_, _≤_}
 use mathlib.Core.Path.{_≡_}
 use mathlib.Core.Bool.{Bool, true, false}
 use mathlib.Core.List.{List, [], _∷_, _++_}
 use mathlib.Core.Logic.{_↔_}
 use lib.ListN.{length, getD, replicate}
 use Rattle.update_sizes.specs.Sizes.{sizesOk, blocksOf}
-use Rattle.update_header.specs.Fields.{dataSize, totalSize, tableCount}
+use Rattle.update_header.specs.Fields.{dataSize, totalSize, tableCount, entryCount}
+use Rattle.update_header.specs.Checks.{sizesFit}
 use Rattle.update_verdict.specs.Verdict.{verdict}
 use Rattle.update_coverage.specs.Covers.{covers}
 use Rattle.write_marks.specs.StoredUpdates.{StoredUpdates}
@@ -70,12 +71,22 @@ pub record Starred : Type 0 where
   pub p-covers-650-2 : covers (p 7 0xF8E7E009) 0x650 2 ≡ true
   pub p-not-650-0 : covers (p 7 0xF8E7E009) 0x650 0 ≡ false
   pub d-976-t-1024 : (n : ℕ) → (sizesOk 976 1024 n ≡ true) × (blocksOf 1024 ≡ 1)
-  pub d-1968-t-2048-n-1 : sizesOk 1968 2048 1 ≡ true
+  pub d-1968-t-2048-n-1 : (sizesOk 1968 2048 1 ≡ true) × (blocksOf 2048 ≡ 1)
   pub d-1212-t-2048-n-64 : sizesOk 1212 2048 64 ≡ true
   pub d-1200-t-2048-n-65 : Code 1200 2048 65 INVALID-HEADER
   pub d-964-t-1024 : (n : ℕ) → Code 964 1024 n INVALID-HEADER
   pub d-32720-t-32768 : (n : ℕ) → (sizesOk 32720 32768 n ≡ true) × (blocksOf 32768 ≡ 16)
   pub t-33792 : (d n : ℕ) → Code d 33792 n INVALID-HEADER
+  -- with a table T needs only be a multiple of 4: both sides of 2,048 with one entry
+  pub d-1964-t-2044-n-1 : (sizesOk 1964 2044 1 ≡ true) × (blocksOf 2044 ≡ 1)
+  pub d-1972-t-2052-n-1 : (sizesOk 1972 2052 1 ≡ true) × (blocksOf 2052 ≡ 2)
+  -- the smallest with a table
+  pub d-4-t-84-n-1 : (sizesOk 4 84 1 ≡ true) × (blocksOf 84 ≡ 1)
+  pub none-under-84 : (s : List ℕ) → sizesFit s ≡ true → 1 ≤ entryCount s → 84 ≤ totalSize s
+  pub d-980-t-1028 : (n : ℕ) → Code 980 1028 n INVALID-HEADER
+  pub t-no-dwords : (d t n : ℕ) → (t % 4 ≡ 0 → ⊥) → Code d t n INVALID-HEADER
+  pub d-32688-t-32768-n-1 : sizesOk 32688 32768 1 ≡ true
+  pub t-32772 : (d n : ℕ) → Code d 32772 n INVALID-HEADER
   pub stale-then-three-unused : answer 4 2 stale-first ≡ Run 1 0
   pub stale-of-two-stale-of-one-unused : answer 4 2 two-stale ≡ Run 0 1
   pub needed-stale-needed-stale : answer 4 2 alternating ≡ Refuse STORAGE-FULL no-run

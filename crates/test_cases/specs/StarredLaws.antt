@@ -1,14 +1,15 @@
 -- The starred cases, proved by evaluation.
 --   starred    the table holds
 --   p-made     the programs write the same P
-use Prim.Native.Nat.{ℕ, _+_, _*_, _%_, _/_, _^_, _<_}
-use mathlib.Core.Path.{_≡_, refl}
-use mathlib.Core.Bool.{Bool, true, false, _&&_, and-false}
+use Prim.Native.Nat.{ℕ, _+_, _*_, _%_, _/_, _^_, _<_, _≤_}
+use mathlib.Core.Path.{_≡_, refl, sym}
+use mathlib.Core.Bool.{Bool, true, false, cond, _&&_, and-false}
 use mathlib.Core.List.{List, [], _∷_, _++_}
 use native.Mathlib.Omega.{arith}
 use lib.Dec.{leb, eqb}
 use lib.ListN.{take, replicate}
-use borrow.Author.Tests.{ne-eqb}
+use borrow.Author.Tests.{ne-eqb, eqb-false}
+use Rattle.laws.specs.Bools.{no-true}
 use Rattle.laws.specs.Below.{allBelow, anyBelow}
 use Rattle.laws.specs.Count.{countBelow}
 use Rattle.laws.specs.Least.{least}
@@ -18,7 +19,9 @@ use Rattle.bytes_dwords.specs.Dword.{little, dword}
 use Rattle.bytes_dwords.specs.Sum.{dwordsOf, total, dwordSum}
 use Rattle.update_sizes.specs.Sizes.{dataSizeOf, totalSizeOf, sizesOk, entriesOf, blocksOf, entryOffset}
 use Rattle.update_header.specs.Fields.{dataSize, totalSize, tableCount, entryCount}
+use Rattle.update_sizes.specs.SizeLaws.{sizes-sized, too-long, plain}
 use Rattle.update_header.specs.Checks.{headerOk, sizesFit}
+use Rattle.update_header.specs.Inside.{inside}
 use Rattle.update_verdict.specs.Sums.{sumOf, headerSum, entryOk, table, sumsOk}
 use Rattle.update_verdict.specs.Verdict.{verdict}
 use Rattle.update_verdict.specs.declared.Verdict.{Verdict}
@@ -42,6 +45,22 @@ sizes-code d t n h s e f g = rw (e, f, g, h) (go (headerOk s))
     go : (x : Bool) → verdictAh (unless x BadHeader BadHeader) ≡ INVALID-HEADER
     go true = refl
     go false = refl
+
+no-dwords : (d t n : ℕ) → (t % 4 ≡ 0 → ⊥) → sizesOk d t n ≡ false
+no-dwords d t n h = no-true (sizesOk d t n) (λ k. let z = sizes-sized d t n k in h (omega (arith, z .dwords, z .layout)))
+
+-- there are always data
+some-data : (x : ℕ) → 1 ≤ dataSizeOf x
+unfolding dataSizeOf
+some-data x = go (eqb x 0) refl
+  where
+    go : (t : Bool) → eqb x 0 ≡ t → 1 ≤ cond t 2000 x
+    go true e = omega arith
+    go false e = omega (arith, eqb-false x 0 e)
+
+least-tabled : (s : List ℕ) → sizesFit s ≡ true → 1 ≤ entryCount s → 84 ≤ totalSize s
+unfolding dataSize
+least-tabled s h l = let z = inside s h .sized in omega (arith, z .dwords, z .layout, some-data (dword s 28))
 
 -- the four bytes of a number below 2^32 are that number
 byte-1 : (c : ℕ) → c / 256 % 256 + 256 * (c / 65536) ≡ c / 256
@@ -84,12 +103,20 @@ starred =
       p-covers-650-2 = refl;
       p-not-650-0 = refl;
       d-976-t-1024 = λ n. (refl, refl);
-      d-1968-t-2048-n-1 = refl;
+      d-1968-t-2048-n-1 = (refl, refl);
       d-1212-t-2048-n-64 = refl;
       d-1200-t-2048-n-65 = sizes-code 1200 2048 65 refl;
-      d-964-t-1024 = λ n. sizes-code 964 1024 n (rw (ne-eqb 1024 (48 + 964 + 20 + 12 * n) (λ e. omega arith)) (and-false (leb 1 n && leb n 64)));
+      d-964-t-1024 = λ n. sizes-code 964 1024 n (rw (ne-eqb 1024 (48 + 964 + 20 + 12 * n) (λ e. omega arith), and-false (leb 1 n && leb n 64)));
       d-32720-t-32768 = λ n. (refl, refl);
-      t-33792 = λ d n. sizes-code d 33792 n (rw (and-false (eqb (d % 4) 0 && true)));
+      t-33792 = λ d n. sizes-code d 33792 n (sym (too-long d 33792 n (omega arith)));
+      d-1964-t-2044-n-1 = (refl, refl);
+      d-1972-t-2052-n-1 = (refl, refl);
+      d-4-t-84-n-1 = (refl, refl);
+      none-under-84 = least-tabled;
+      d-980-t-1028 = λ n. sizes-code 980 1028 n (sym (plain 980 1028 n refl (omega arith) refl));
+      t-no-dwords = λ d t n h. sizes-code d t n (no-dwords d t n h);
+      d-32688-t-32768-n-1 = refl;
+      t-32772 = λ d n. sizes-code d 32772 n (sym (too-long d 32772 n (omega arith)));
       stale-then-three-unused = refl;
       stale-of-two-stale-of-one-unused = refl;
       needed-stale-needed-stale = refl;

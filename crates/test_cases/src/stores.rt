@@ -13,6 +13,20 @@ fn catalogue() {
     lines::catalogue(bytes::first(buf, 8192));
 }
 
+// The catalogue of four blocks with two updates that end off the kilobyte: 2,044 bytes in block 0, 2,052 in blocks 1 and 2.
+fn catalogue_off_the_kilobyte() {
+    let mut space = io::large_buffer();
+    let buf: &mut [u8] = &mut space;
+    bytes::fill(buf, 2048, 6144, 255);
+    make::tabled(buf, 0x650, 6, 1964, 1);
+    bytes::fill(buf, 2044, 4, 255);
+    if 2048 <= buf.len() {
+        bytes::fill(buf, 2048, 2052, 0);
+        make::tabled(&mut buf[2048..], 0x683, 0x81, 1972, 1);
+    }
+    lines::catalogue(bytes::first(buf, 8192));
+}
+
 // Room for one byte more than the largest store has.
 fn input_space() -> [u8; 65537]
     ensures { λ r. ⌜ 65537 ≡ length r ⌝ }
@@ -161,6 +175,7 @@ fn loads() {
 
 pub fn run() {
     catalogue();
+    catalogue_off_the_kilobyte();
     inputs();
     presences();
     controls();

@@ -29,12 +29,12 @@ fn sizes(label: &[u8], d: u32, t: u32, n: usize) {
     lines::verdict(label, bytes::first(buf, n));
 }
 
-// 2,048 bytes with D and a table of `n` entries, whose sums are right.
-fn table(label: &[u8], d: u32, n: u32) {
+// `lent` bytes with D and a table of `n` entries, whose sums are right.
+fn table(label: &[u8], d: u32, n: u32, lent: usize) {
     let mut space = io::large_buffer();
     let buf: &mut [u8] = &mut space;
     make::tabled(buf, 0x650, 6, d, n);
-    lines::verdict(label, bytes::first(buf, 2048));
+    lines::verdict(label, bytes::first(buf, lent));
 }
 
 // The same with D 1,968 and one entry, a dword of the table at 2,016 changed, and the table's sum made right.
@@ -89,17 +89,31 @@ fn plain_sizes() {
 }
 
 fn table_sizes() {
-    table(b"D 1968, T 2048, n 1", 1968, 1);
-    table(b"D 1212, T 2048, n 64", 1212, 64);
-    table(b"D 1200, T 2048, n 65", 1200, 65);
+    table(b"D 1968, T 2048, n 1", 1968, 1, 2048);
+    table(b"D 1212, T 2048, n 64", 1212, 64, 2048);
+    table(b"D 1200, T 2048, n 65", 1200, 65, 2048);
     changed_table(b"a table's reserved bytes of any content", 2032, 0x12345678);
     changed_table(b"count field 2 in a table of one entry", 2016, 2);
     changed_table(b"an entry whose sum is not the header's", 2036, 0x660);
     unsealed_table(b"a table that doesn't sum to 0");
 }
 
+// T off the kilobyte, with a table.
+fn other_ends() {
+    table(b"D 1964, T 2044, n 1", 1964, 1, 2044);
+    table(b"D 1972, T 2052, n 1", 1972, 1, 2052);
+    table(b"D 1972, T 2052, n 1, a byte short", 1972, 1, 2051);
+    table(b"D 4, T 84, n 1", 4, 1, 84);
+    table(b"D 1966, T 2046, n 1", 1966, 1, 2048);
+    table(b"D 1968, T 2804, n 64", 1968, 64, 2804);
+    table(b"D 1968, T 2816, n 65", 1968, 65, 2816);
+    table(b"D 32688, T 32768, n 1", 32688, 1, 32768);
+    table(b"D 32692, T 32772, n 1", 32692, 1, 32772);
+}
+
 pub fn run() {
     verdicts();
     plain_sizes();
     table_sizes();
+    other_ends();
 }

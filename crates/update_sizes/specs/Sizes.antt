@@ -1,10 +1,12 @@
 -- The sizes of an update, as numbers: what D = 0 means, the size rules, the number of entries and the number of blocks (document 01, "The
--- update").
+-- update", as document 02, Three, amends it).
 --   header, tableHead, entry   bytes of the header, of the table before its entries, and of an entry
 --   mostEntries, mostTotal     the most entries, and the greatest T
---   dataUnit, totalUnit        D and T are multiples of these
+--   dataUnit                   D is a multiple of this, and so is T with a table
+--   totalUnit                  T without a table is a multiple of this
 --   block                      bytes of a block
 --   dataSizeOf, totalSizeOf    the sizes that the stored D and T mean
+--   plainOk, tabledOk   the rule for T without a table, and with one of n entries
 --   sizesOk       the rule for D, T and the table's count field; every sum is one of whole numbers
 --   entriesOf     n, the number of entries: none where T = 48 + D
 --   entryOffset   where entry k begins, behind d data bytes
@@ -46,12 +48,18 @@ dataSizeOf d = cond (eqb d 0) 2000 d
 unfoldable pub totalSizeOf : ℕ → ℕ → ℕ
 totalSizeOf d t = cond (eqb d 0) 2048 t
 
--- D is a multiple of 4, T a multiple of 1,024 and at most 32,768, and either T = 48 + D, or T = 48 + D + 20 + 12 n with a table of n
--- entries, n from 1 to 64; n is the table's count field
+-- without a table
+abbrev pub plainOk : ℕ → ℕ → Bool
+plainOk d t = eqb t (header + d) && eqb (t % totalUnit) 0
+
+-- with a table of n entries
+abbrev pub tabledOk : ℕ → ℕ → ℕ → Bool
+tabledOk d t n = leb 1 n && leb n mostEntries && eqb t (header + d + tableHead + entry * n) && eqb (t % dataUnit) 0
+
+-- D is a multiple of 4, T at most 32,768, and either T = 48 + D, a multiple of 1,024, or T = 48 + D + 20 + 12 n, a multiple of 4, with a
+-- table of n entries, n from 1 to 64; n is the table's count field
 unfoldable pub sizesOk : ℕ → ℕ → ℕ → Bool
-sizesOk d t n =
-    eqb (d % dataUnit) 0 && eqb (t % totalUnit) 0 && leb t mostTotal
-    && (eqb t (header + d) || (leb 1 n && leb n mostEntries && eqb t (header + d + tableHead + entry * n)))
+sizesOk d t n = eqb (d % dataUnit) 0 && leb t mostTotal && (plainOk d t || tabledOk d t n)
 
 unfoldable pub entriesOf : ℕ → ℕ → ℕ → ℕ
 entriesOf d t n = cond (eqb t (header + d)) 0 n

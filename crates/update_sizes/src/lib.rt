@@ -16,7 +16,7 @@ pub const DEFAULT_DATA: u32 = 2000;
 pub const DEFAULT_TOTAL: u32 = 2048;
 // D is a multiple of this.
 pub const DATA_UNIT: u32 = 4;
-// T is a multiple of this.
+// T without a table is a multiple of this.
 pub const TOTAL_UNIT: u32 = 1024;
 // The greatest T.
 pub const MOST_TOTAL: u32 = 32768;
@@ -39,21 +39,19 @@ pub fn total_size_of(d: u32, t: u32) -> u32
     if d == 0 { DEFAULT_TOTAL } else { t }
 }
 
-// The rule for D and T, with the table's count field. No sum is taken in 32 bits, so a huge D can't look small.
+// The rule for D and T, with the table's count field. No sum is taken in 32 bits, so a huge D can't look small. With a table T is a multiple
+// of 4 because D is.
 pub fn sizes_ok(d: u32, t: u32, n: u32) -> bool
     ensures { λ r. ⌜ r ≡ sizesOk d t n ⌝ }
 {
     if d % DATA_UNIT != 0 {
         return false;
     }
-    if t % TOTAL_UNIT != 0 {
-        return false;
-    }
     if t > MOST_TOTAL {
         return false;
     }
     if t as usize == HEADER + d as usize {
-        return true;
+        return t % TOTAL_UNIT == 0;
     }
     if n < 1 {
         return false;

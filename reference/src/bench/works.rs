@@ -73,6 +73,7 @@ pub const UNUSED_BLOCKS: &str = "presence, 32 unused blocks";
 
 fn scans() -> Vec<Work> {
     let two = (sixteen_blocks(0x1000, 65), sixteen_blocks(0x2000, 65));
+    let off_kilobyte = Recipe::new(1, &[(0x1000, 1), (0x1001, 1)], 2044).build();
     let mut works = vec![
         Work::scan(
             "presence, one update of 2 KB",
@@ -83,6 +84,10 @@ fn scans() -> Vec<Work> {
             make::store(16, &[(0, &sixteen_blocks(0x700, 1))]),
         ),
         Work::scan("presence, 2 KB with 64 entries", one_block_updates(1, 65)),
+        Work::scan(
+            "presence, 2,044 bytes with one entry",
+            make::store(1, &[(0, &off_kilobyte)]),
+        ),
     ];
     for blocks in GROWTH {
         works.push(Work::scan(

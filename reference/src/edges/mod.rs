@@ -5,6 +5,7 @@ mod functions;
 mod indexed;
 mod indexes;
 mod loads;
+mod off_kilobyte;
 mod processors;
 mod reads;
 mod revisions;
@@ -32,6 +33,9 @@ pub fn edges() -> Vec<Call> {
     edges.candidate_sizes();
     edges.candidate_tables();
     edges.candidate_sums();
+    edges.off_kilobyte_candidates();
+    edges.off_kilobyte_writes();
+    edges.off_kilobyte_stores();
     edges.lists();
     edges.coverage();
     edges.revisions();

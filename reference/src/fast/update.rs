@@ -37,11 +37,7 @@ impl<'a> Update<'a> {
             0 => (2000, 2048),
             data => (data as u64, dword(bytes, 32) as u64),
         };
-        if !data.is_multiple_of(4)
-            || !total.is_multiple_of(1024)
-            || total > 32_768
-            || total > bytes.len() as u64
-        {
+        if !data.is_multiple_of(4) || total > 32_768 || total > bytes.len() as u64 {
             return Err(INVALID_HEADER);
         }
         let Some(table) = total.checked_sub(HEADER as u64 + data) else {
@@ -52,7 +48,12 @@ impl<'a> Update<'a> {
         let bytes = &bytes[..total];
         let table = &bytes[total - table..];
         let mut entries = &table[..0];
-        if !table.is_empty() {
+        if table.is_empty() {
+            if !total.is_multiple_of(1024) {
+                return Err(INVALID_HEADER);
+            }
+        } else {
+            // D and the table's length are multiples of 4, so T is one too.
             let length = table.len().wrapping_sub(TABLE_HEAD);
             if !(ENTRY..=64 * ENTRY).contains(&length)
                 || !length.is_multiple_of(ENTRY)

@@ -3,6 +3,7 @@
 use super::{Generator, Style};
 use crate::calls::{BLOCK, FUNCTION};
 use crate::make;
+use crate::store::Store;
 use crate::update::{Pair, Processor};
 use std::collections::BTreeSet;
 
@@ -70,7 +71,7 @@ impl Generator {
     pub(super) fn spoil_store(&mut self) {
         let length = self.call.store.len();
         let blocks = length / BLOCK;
-        match self.random.below(8) {
+        match self.random.below(10) {
             0 => self.call.store.clear(),
             1 => self
                 .call
@@ -104,6 +105,12 @@ impl Generator {
                 let block = self.random.below(blocks);
                 self.put_over(block.min(blocks - width), &recipe.build());
             }
+            7 | 8 => {
+                // A rest that begins late.
+                if let Some(at) = self.some_rest() {
+                    self.call.store[at] = self.random.pick(&[0, 0x7F, 0xFE]);
+                }
+            }
             _ => {
                 // An update that does not fit any more.
                 let update = self.recipe(&[(0x650, 2)], 2).build();
@@ -119,6 +126,19 @@ impl Generator {
         rest[..whole].fill(0xFF);
         let count = bytes.len().min(whole);
         rest[..count].copy_from_slice(&bytes[..count]);
+    }
+
+    /// The first byte behind a stored update that does not fill its last block.
+    fn some_rest(&mut self) -> Option<usize> {
+        let store = Store::parse(&self.call.store)?;
+        let mut rests = Vec::new();
+        for held in &store.held {
+            let total = held.update.sizes.total as usize;
+            if !total.is_multiple_of(BLOCK) {
+                rests.push(held.first * BLOCK + total);
+            }
+        }
+        (!rests.is_empty()).then(|| self.random.pick(&rests))
     }
 
     /// Any call on a store in which one byte is changed, for this call only.
@@ -140,7 +160,10 @@ impl Generator {
             1 => BLOCK - 1,
             _ => self.random.below(BLOCK),
         };
-        let at = (start + within).min(self.call.store.len() - 1);
+        let mut at = (start + within).min(self.call.store.len() - 1);
+        if self.random.chance(20) {
+            at = self.some_rest().unwrap_or(at);
+        }
         self.call.store[at] ^= 1 << self.random.below(8);
     }
 }

@@ -45,8 +45,7 @@ impl Generator {
     }
 
     pub(super) fn recipe(&mut self, pairs: &[Pair], width: usize) -> Recipe {
-        let shorter = if self.random.chance(30) { 1024 } else { 0 };
-        let total = width * BLOCK - shorter;
+        let total = self.some_total(pairs.len() - 1, width);
         let mut recipe = Recipe::new(self.some_revision(), pairs, total);
         if total == BLOCK && pairs.len() == 1 && self.random.chance(50) {
             recipe.data_field = 0;
@@ -75,6 +74,24 @@ impl Generator {
         recipe
     }
 
+    /// A total size of so many blocks: with a table one in three is any multiple of 4.
+    fn some_total(&mut self, entries: usize, width: usize) -> usize {
+        let most = width * BLOCK;
+        if entries == 0 || self.random.below(3) > 0 {
+            return if self.random.chance(30) {
+                most - 1024
+            } else {
+                most
+            };
+        }
+        let least = (most - BLOCK + 4).max(48 + 4 + 20 + 12 * entries);
+        match self.random.below(8) {
+            0 => least,
+            1 => most - 4,
+            _ => 4 * self.random.between(least / 4, most / 4),
+        }
+    }
+
     pub(super) fn some_revision(&mut self) -> u32 {
         match self.random.below(40) {
             0 => self.random.word(),
@@ -97,7 +114,7 @@ impl Generator {
         } else {
             0u32.wrapping_sub(small)
         };
-        match self.random.below(13) {
+        match self.random.below(16) {
             0 => recipe.version = self.random.pick(&[0, 2, 0x101, 0xFFFF_FFFF]),
             1 => recipe.loader = self.random.pick(&[0, 2, 0x101, 0xFFFF_FFFF]),
             2 => recipe.data_field = recipe.data_field.wrapping_add(small),
@@ -123,7 +140,29 @@ impl Generator {
                 *recipe = Recipe::new(recipe.revision, &pairs, BLOCK);
             }
             11 => *recipe = Recipe::new(recipe.revision, &recipe.pairs, 33_792),
+            12 => *recipe = Recipe::new(recipe.revision, &with_entry(recipe), 32_772),
+            13 => {
+                // Off the kilobyte, and no table.
+                let most = recipe.length().next_multiple_of(BLOCK);
+                let total = most - 4 * self.random.between(1, 255);
+                *recipe = Recipe::new(recipe.revision, &recipe.pairs[..1], total);
+            }
+            14 => {
+                // A table behind a D that is no multiple of 4.
+                let most = recipe.length().next_multiple_of(BLOCK);
+                let total = most - self.random.between(1, 3);
+                *recipe = Recipe::new(recipe.revision, &with_entry(recipe), total);
+            }
             _ => recipe.wrong.total = off,
         }
     }
+}
+
+/// The pairs, and if there is no entry, one that covers nobody.
+fn with_entry(recipe: &Recipe) -> Vec<Pair> {
+    let mut pairs = recipe.pairs.clone();
+    if pairs.len() == 1 {
+        pairs.push((0x650, 0));
+    }
+    pairs
 }

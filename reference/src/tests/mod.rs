@@ -5,6 +5,7 @@ mod easy_errors;
 mod examples;
 mod index;
 mod indexed;
+mod off_kilobyte;
 mod outcomes;
 mod plain_form;
 mod random_calls;

@@ -1,11 +1,12 @@
 //! Tests of the random calls: what they reach, and how much they lend.
 
-use crate::calls::{Answer, Call, Request, CANDIDATE_ROOM, DESTINATION_ROOM, STORE_ROOM};
+use crate::calls::{Answer, Call, Request, BLOCK, CANDIDATE_ROOM, DESTINATION_ROOM, STORE_ROOM};
 use crate::generate::{Generator, Style};
 use crate::index::{built, Index};
 use crate::model;
 use crate::store::Store;
 use crate::tally::Tally;
+use crate::update::{number, Update};
 use crate::write::ALL_SETS;
 use std::collections::BTreeMap;
 
@@ -150,6 +151,72 @@ fn accepted_writes_are_of_every_kind() {
         let told = format!("{emptied:?} {starts:?} {crowded} {wide}");
         let kinds = emptied.iter().chain(&starts).chain([&crowded, &wide]);
         assert!(kinds.into_iter().all(|count| *count >= 50), "{told}");
+    }
+}
+
+/// What is off the kilobyte about a call, with a table unless it is told.
+fn off_kilobyte(call: &Call, answer: &Answer) -> Vec<&'static str> {
+    let mut kinds = Vec::new();
+    let off = |total: u64| !total.is_multiple_of(1024);
+    if let Some(store) = Store::parse(&call.store) {
+        if store.held.iter().any(|held| off(held.update.sizes.total)) {
+            kinds.push("stored");
+        }
+    } else {
+        kinds.extend(late_rest(&call.store));
+    }
+    if name(call) == "write" && call.candidate.len() >= 48 {
+        let field = |at| u64::from(number(&call.candidate, at));
+        let (data, total) = (field(28), field(32));
+        let table = total.wrapping_sub(48 + data);
+        kinds.extend(match (answer.ax, data % 4) {
+            (0, _) if data != 0 && off(total) => Some("accepted"),
+            (0x9500, 0) if off(total) && table == 0 => Some("no table"),
+            (0x9500, 1..) if off(total) && table % 12 == 8 => Some("no multiple of 4"),
+            (0x9500, 0) if total == 32_772 && table % 12 == 8 => Some("too long"),
+            _ => None,
+        });
+    }
+    kinds
+}
+
+/// Whether a bad store is good but for the first byte of a rest off the kilobyte.
+fn late_rest(store: &[u8]) -> Option<&'static str> {
+    for start in (0..store.len()).step_by(BLOCK) {
+        let Ok(update) = Update::parse(&store[start..]) else {
+            continue;
+        };
+        let rest = start + update.sizes.total as usize;
+        let late = store.get(rest).is_some_and(|&byte| byte != 0xFF);
+        if late && !rest.is_multiple_of(1024) {
+            let mut mended = store.to_vec();
+            mended[rest] = 0xFF;
+            if Store::parse(&mended).is_some() {
+                return Some("late rest");
+            }
+        }
+    }
+    None
+}
+
+#[test]
+fn updates_off_the_kilobyte_are_drawn() {
+    let kinds = [
+        "stored",
+        "late rest",
+        "accepted",
+        "no table",
+        "no multiple of 4",
+        "too long",
+    ];
+    for (style, seed) in [(Style::Wide, 1), (Style::Compact, 2)] {
+        let mut counts = BTreeMap::from(kinds.map(|kind| (kind, 0)));
+        each_call(style, seed, |call, answer| {
+            for kind in off_kilobyte(call, answer) {
+                *counts.get_mut(kind).expect("a known kind") += 1;
+            }
+        });
+        assert!(counts.values().all(|count| *count >= OFTEN), "{counts:?}");
     }
 }
 

@@ -60,16 +60,19 @@ fn data_size_0_means_2048_bytes() {
 
 #[test]
 fn the_size_rules_are_as_many_as_document_01_says() {
-    // Every total size has one data size without a table and 64 with one.
-    let mut good = 0;
+    // Without a table every kilobyte; with n entries every D from 4 to 32,700 - 12n.
+    let mut good = [0; 65];
     for total in 0..=33_792u32 {
-        for data in total.saturating_sub(900)..=total {
-            if data != 0 && sizes(data, total).is_some() {
-                good += 1;
+        for data in total.saturating_sub(900).max(1)..=total {
+            if let Some(sizes) = sizes(data, total) {
+                good[sizes.entries as usize] += 1;
             }
         }
     }
-    assert_eq!(good, 32 * 65);
+    assert_eq!(good[0], 32);
+    for (entries, good) in good.iter().enumerate().skip(1) {
+        assert_eq!(*good, (32_700 - 12 * entries) / 4, "{entries} entries");
+    }
 }
 
 #[test]
