@@ -286,6 +286,10 @@ enum {
  *   2. candidate shorter than 48 bytes, or its header version or
  *      loader version isn't 1                                          INVALID_HEADER
  *   3. a size rule broken, or total size above candidate_len           INVALID_HEADER
+ *      (data size D a multiple of 4; total size T at most 32,768, and
+ *      T = 48 + D, a multiple of 1,024, or, with a table of 1 to 64
+ *      entries, T = 48 + D + 20 + 12 per entry, a multiple of 4; D = 0
+ *      stands for D = 2,000 and T = 2,048)
  *   4. a sum wrong                                                     INVALID_HEADER_CS
  *   5. covers no listed processor                                      CPU_NOT_PRESENT
  *   6. a stored update shares a covered processor, listed or not,

@@ -11,8 +11,8 @@ use lib.ListN.{length, getD}
 use lib.Dec.{leb, eqb}
 use borrow.Author.Tests.{leb-true, eqb-true, not-true}
 use Rattle.laws.specs.Bools.{and-parts}
-use Rattle.laws.specs.Below.{allBelow, anyBelow, rows, all-at, all-cong, any-cong}
-use Rattle.laws.specs.NumbersBelow.{itself, listBelow, list-cong}
+use Rattle.laws.specs.Below.{allBelow, all-at, all-cong, any-cong}
+use Rattle.laws.specs.NumbersBelow.{itself, list-cong}
 use Rattle.laws.specs.Unless.{unless}
 use Rattle.update_sizes.specs.Sizes.{sizesOk}
 use Rattle.update_sizes.specs.SizeLaws.{plain, tabled}
@@ -25,7 +25,7 @@ use Rattle.update_sharing.specs.Shares.{shares}
 use Rattle.store_blocks.specs.Blocks.{unused, fromBlock, blockCount, lengthOk}
 use Rattle.store_blocks.specs.Slot.{updateSlot, slotOf}
 use Rattle.store_blocks.specs.declared.slot.Slot.the-variants.{Unused, Bad}
-use Rattle.store_directory.specs.Scan.{slotSize, isUpdate, isBad, slotAt, sizeAt, nextSlot, begins, first, sound, startsTo, sizesTo, badStore, directoryTo, clashAt, clashRow, clash, apart, storeOk, directory}
+use Rattle.store_directory.specs.Scan.{isUpdate, isBad, slotAt, sizeAt, nextSlot, begins, first, sound, startsTo, sizesTo, directoryTo, clashAt, clashRow, clash, apart, storeOk, directory}
 use Rattle.store_directory.specs.Kind.{kindOf, kindAt}
 use Rattle.store_directory.specs.BlockLaws.{first-entry}
 use Rattle.store_directory.specs.OldStores.{oldSizesOk, oldSizesFit, oldVerdict, oldPairCount, oldCovers, oldShares, oldSlotOf, oldSlotAt, oldSizeAt, oldNextSlot, oldBegins, oldFirst, oldSound, oldStarts, oldSizes, oldClashAt, oldClashRow, oldClash, oldStoreOk, oldDirectory, oldKindAt}
@@ -33,9 +33,9 @@ use Rattle.store_directory.specs.OldStores.{oldSizesOk, oldSizesFit, old
 pub old-sizes : (d t n : ℕ) → oldSizesOk d t n ≡ true → sizesOk d t n ≡ true
 unfolding oldSizesOk
 old-sizes d t n h =
-    let a = and-parts (eqb (d % 4) 0 && eqb (t % 1024) 0 && leb t 32768) (eqb t (48 + d) || (leb 1 n && leb n 64 && eqb t (48 + d + 20 + 12 * n))) h in
-    let b = and-parts (eqb (d % 4) 0 && eqb (t % 1024) 0) (leb t 32768) (a .0) in
-    let c = and-parts (eqb (d % 4) 0) (eqb (t % 1024) 0) (b .0) in
+    let a = and-parts _ _ h in
+    let b = and-parts _ _ (a .0) in
+    let c = and-parts _ _ (b .0) in
     go (eqb-true (d % 4) 0 (c .0)) (c .1) (leb-true t 32768 (b .1)) (eqb t (48 + d)) refl (a .1)
   where
     go : d % 4 ≡ 0 → eqb (t % 1024) 0 ≡ true → t ≤ 32768 → (u : Bool) → eqb t (48 + d) ≡ u → u || (leb 1 n && leb n 64 && eqb t (48 + d + 20 + 12 * n)) ≡ true → sizesOk d t n ≡ true

@@ -8,7 +8,6 @@ use Prim.Native.Nat.{ℕ, _%_, _/_, _^_, _<_, _≤_}
 use mathlib.Core.Path.{_≡_}
 use mathlib.Core.Bool.{Bool, true, false}
 use mathlib.Core.List.{List, [], _∷_, _++_}
-use mathlib.Core.Logic.{_↔_}
 use lib.ListN.{length, getD, replicate}
 use Rattle.update_sizes.specs.Sizes.{sizesOk, blocksOf}
 use Rattle.update_header.specs.Fields.{dataSize, totalSize, tableCount, entryCount}
@@ -17,7 +16,7 @@ use Rattle.update_verdict.specs.Verdict.{verdict}
 use Rattle.update_coverage.specs.Covers.{covers}
 use Rattle.write_marks.specs.StoredUpdates.{StoredUpdates}
 use Rattle.write_placement.specs.Choose.{choose}
-use Rattle.call_answers.specs.Codes.{SUCCESS, STORAGE-FULL, INVALID-HEADER, INVALID-HEADER-CS, no-run}
+use Rattle.call_answers.specs.Codes.{STORAGE-FULL, INVALID-HEADER, INVALID-HEADER-CS, no-run}
 use Rattle.write_plan.specs.Plan.{placed}
 use Rattle.write_plan.specs.VerdictCode.{verdictAh}
 use Rattle.write_plan.specs.declared.Plan.{Plan}

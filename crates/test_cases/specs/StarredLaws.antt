@@ -4,7 +4,7 @@
 use Prim.Native.Nat.{ℕ, _+_, _*_, _%_, _/_, _^_, _<_, _≤_}
 use mathlib.Core.Path.{_≡_, refl, sym}
 use mathlib.Core.Bool.{Bool, true, false, cond, _&&_, and-false}
-use mathlib.Core.List.{List, [], _∷_, _++_}
+use mathlib.Core.List.{List}
 use native.Mathlib.Omega.{arith}
 use lib.Dec.{leb, eqb}
 use lib.ListN.{take, replicate}
@@ -24,7 +24,6 @@ use Rattle.update_header.specs.Checks.{headerOk, sizesFit}
 use Rattle.update_header.specs.Inside.{inside}
 use Rattle.update_verdict.specs.Sums.{sumOf, headerSum, entryOk, table, sumsOk}
 use Rattle.update_verdict.specs.Verdict.{verdict}
-use Rattle.update_verdict.specs.declared.Verdict.{Verdict}
 use Rattle.update_verdict.specs.declared.Verdict.the-variants.{BadHeader}
 use Rattle.update_coverage.specs.Covers.{pairCount, signatureOffset, flagsOffset, signatureAt, flagsAt, platformsAt, names, pairCovers, coversAt, covers}
 use Rattle.write_marks.specs.Against.{touchesByNumber, emptiedByNumber, rulesOut, loses, ruledOut, lost}
