@@ -39,7 +39,7 @@ old-sizes d t n h =
     go (eqb-true (d % 4) 0 (c .0)) (c .1) (leb-true t 32768 (b .1)) (eqb t (48 + d)) refl (a .1)
   where
     go : d % 4 ≡ 0 → eqb (t % 1024) 0 ≡ true → t ≤ 32768 → (u : Bool) → eqb t (48 + d) ≡ u → u || (leb 1 n && leb n 64 && eqb t (48 + d + 20 + 12 * n)) ≡ true → sizesOk d t n ≡ true
-    go dwords kilobytes small true q w = sym (plain d t n dwords small (eqb-true t (48 + d) q)) ∙ kilobytes
+    go dwords kilobytes small true q w = sym (plain d t n (λ k. small) (eqb-true t (48 + d) q)) ∙ kilobytes
     go dwords kilobytes small false q w =
         let x = and-parts (leb 1 n && leb n 64) (eqb t (48 + d + 20 + 12 * n)) w in
         let y = and-parts (leb 1 n) (leb n 64) (x .0) in

@@ -1,6 +1,6 @@
 -- The size rule at each of its tests, and what right sizes say, as inequalities.
 --   odd-data .. too-many    what the rule refuses
---   tabled, plain     the rule with a table and without one; `sized-rule` both, as `search` takes them
+--   tabled, plain     the rule with a table and without one
 --   Sized             what right D and T say, with n entries
 --   sizes-sized       the rule says it
 --   sizes-alike       the count field matters only where a table fits
@@ -31,30 +31,28 @@ module _ (d t n : ℕ) where
   unfolding sizesOk
   too-many h l = rw (ne-eqb t (48 + d) h, lt-leb n 64 l, and-false (leb 1 n), and-false (eqb (d % 4) 0 && leb t 32768))
 
-  -- D is a multiple of 4, and T isn't too great
-  module _ (dwords : d % 4 ≡ 0) (small : t ≤ 32768) where
-    -- then T is a multiple of 4
-    pub tabled : (t ≡ 48 + d → ⊥) → 1 ≤ n → n ≤ 64 → eqb t (48 + d + 20 + 12 * n) ≡ sizesOk d t n
-    unfolding sizesOk
-    tabled other some few =
-        rw (eq-eqb (d % 4) 0 dwords, le-leb t 32768 small, ne-eqb t (48 + d) other, le-leb 1 n some, le-leb n 64 few)
-        (go (eqb t (48 + d + 20 + 12 * n)) refl)
-      where
-        go : (x : Bool) → eqb t (48 + d + 20 + 12 * n) ≡ x → x ≡ x && eqb (t % 4) 0
-        go true q = rw (eq-eqb (t % 4) 0 (omega (arith, eqb-true t (48 + d + 20 + 12 * n) q)))
-        go false q = refl
+  -- D is a multiple of 4, and then T with a table is one
+  pub tabled : d % 4 ≡ 0 → t ≤ 32768 → (t ≡ 48 + d → ⊥) → 1 ≤ n → n ≤ 64 → eqb t (48 + d + 20 + 12 * n) ≡ sizesOk d t n
+  unfolding sizesOk
+  tabled dwords small other some few =
+      rw (eq-eqb (d % 4) 0 dwords, le-leb t 32768 small, ne-eqb t (48 + d) other, le-leb 1 n some, le-leb n 64 few)
+      (go (eqb t (48 + d + 20 + 12 * n)) refl)
+    where
+      go : (x : Bool) → eqb t (48 + d + 20 + 12 * n) ≡ x → x ≡ x && eqb (t % 4) 0
+      go true q = rw (eq-eqb (t % 4) 0 (omega (arith, eqb-true t (48 + d + 20 + 12 * n) q)))
+      go false q = refl
 
-    pub plain : t ≡ 48 + d → eqb (t % 1024) 0 ≡ sizesOk d t n
-    unfolding sizesOk
-    plain e =
-        rw (eq-eqb (d % 4) 0 dwords, le-leb t 32768 small, eq-eqb t (48 + d) e, ne-eqb t (48 + d + 20 + 12 * n) (λ q. omega arith), and-false (leb 1 n && leb n 64))
-        (go (eqb (t % 1024) 0))
-      where
-        go : (x : Bool) → x ≡ x || false
-        go true = refl
-        go false = refl
-
-pub ruleset sized-rule = (tabled, plain)
+  -- T is a multiple of 1,024, and then D is one of 4
+  pub plain : (t % 1024 ≡ 0 → t ≤ 32768) → t ≡ 48 + d → eqb (t % 1024) 0 ≡ sizesOk d t n
+  unfolding sizesOk
+  plain small e =
+      rw (eq-eqb t (48 + d) e, ne-eqb t (48 + d + 20 + 12 * n) (λ q. omega arith), and-false (leb 1 n && leb n 64)) (go (eqb (t % 1024) 0) refl)
+    where
+      go : (x : Bool) → eqb (t % 1024) 0 ≡ x → x ≡ eqb (d % 4) 0 && leb t 32768 && (x || false)
+      go true q =
+          let k = eqb-true (t % 1024) 0 q in
+          rw (eq-eqb (d % 4) 0 (omega (arith, k)), le-leb t 32768 (small k))
+      go false q = rw (and-false (eqb (d % 4) 0 && leb t 32768))
 
 -- D and T are right, with n entries
 pub record Sized (d t n : ℕ) : Type 0 where
