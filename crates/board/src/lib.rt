@@ -1,4 +1,6 @@
 // The board's C interface: the proved calls, and their answers laid out in 16 words.
+#![tactic(auto)]
+
 ghost use Rattle.std.specs.Prelude.{◌≡◌, length, false};
 ghost use Rattle.call_dispatch.specs.Call.{inputs_of, call_reply, call_store, call_destination};
 ghost use Rattle.load_choice.specs.Load.{load_choice};

@@ -1,4 +1,6 @@
 // The answers of the calls, laid out in 16 words.
+#![tactic(auto)]
+
 ghost use Rattle.std.specs.Prelude.{◌≡◌};
 ghost use Rattle.call_answers.specs.Codes.{not_implemented, none};
 ghost use Rattle.call_answers.specs.Answers.{refusal, Coded};

@@ -1,4 +1,6 @@
 // The answer words of the index functions.
+#![tactic(auto)]
+
 ghost use Rattle.std.specs.Prelude.{◌≡◌, true, false};
 ghost use Rattle.board_call_words.specs.Words.{ax_of, answer_words};
 ghost use Rattle.call_reads.specs.Read.{answered};

@@ -1,4 +1,6 @@
 // The load choice, laid out in 16 words.
+#![tactic(auto)]
+
 ghost use Rattle.std.specs.Prelude.{◌≡◌};
 ghost use Rattle.load_choice.specs.LoadBounds.{StartBelow32};
 ghost use Rattle.board_load_words.specs.LoadWords.{load_ax, load_words};

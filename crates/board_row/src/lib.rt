@@ -1,4 +1,6 @@
 // A row of 16 answer words: the words that mean the same in every answer, and the numbers of the case behind them.
+#![tactic(auto)]
+
 ghost use Rattle.std.specs.Prelude.{◌≡◌, not, eqb};
 ghost use Rattle.board_row.specs.Row.{flag_word, row_of};
 

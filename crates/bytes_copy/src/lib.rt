@@ -1,4 +1,6 @@
 // Bytes put at a place of a slice, and a part of a slice filled with FFh.
+#![tactic(auto)]
+
 ghost use Rattle.std.specs.Prelude.{◌≡◌, ◌+◌, ◌≤◌, length};
 ghost use Rattle.bytes_copy.specs.Paste.{put_at, fill_at};
 

@@ -2,5 +2,3 @@
 pub mod Dword
 pub mod Sum
 pub mod Summed
-pub mod DwordLaws
-pub mod DwordSumLaws

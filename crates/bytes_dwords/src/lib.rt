@@ -1,4 +1,6 @@
 // Little-endian 32-bit numbers in a byte slice, and their sum modulo 2^32.
+#![tactic(auto)]
+
 ghost use Rattle.std.specs.Prelude.{◌≡◌, ◌+◌, ◌*◌, ◌/◌, ◌%◌, ◌^◌, ◌<◌, ◌≤◌, min, length, slice_index};
 ghost use Rattle.bytes_dwords.specs.Dword.{dword};
 ghost use Rattle.bytes_dwords.specs.Sum.{dword_sum};

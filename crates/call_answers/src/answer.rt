@@ -3,7 +3,7 @@ ghost use Rattle.std.specs.Prelude.{◌≡◌};
 ghost use Rattle.call_answers.specs.Answers.{refusal};
 
 // The bytes INTE and LPEP, the loader version, the number of blocks.
-#[derive(Drop)]
+#[derive(Clone, Copy)]
 pub struct Presence {
     pub byte0: u8,
     pub byte1: u8,
@@ -21,7 +21,7 @@ pub struct Presence {
 }
 
 // The start block, how many stored updates were emptied, and their blocks: bit b for each block b of an emptied update.
-#[derive(Drop)]
+#[derive(Clone, Copy)]
 pub struct Written {
     pub start: u32,
     pub emptied: u32,
@@ -32,7 +32,7 @@ pub struct Written {
 }
 
 // 1 for loading on, 0 for off.
-#[derive(Drop)]
+#[derive(Clone, Copy)]
 pub struct Control {
     pub status: u32,
     pub ah: u8,
@@ -41,7 +41,7 @@ pub struct Control {
 }
 
 // How many blocks were copied.
-#[derive(Drop)]
+#[derive(Clone, Copy)]
 pub struct Read {
     pub blocks: u32,
     pub ah: u8,
@@ -50,7 +50,7 @@ pub struct Read {
 }
 
 // The codes; the status is FFh for a control call refused for its task, else 0.
-#[derive(Drop)]
+#[derive(Clone, Copy)]
 pub struct Refused {
     pub status: u32,
     pub ah: u8,
@@ -58,7 +58,7 @@ pub struct Refused {
     pub carry: bool,
 }
 
-#[derive(Drop)]
+#[derive(Clone, Copy)]
 pub enum Answer {
     Presence(Presence),
     Written(Written),
@@ -68,7 +68,7 @@ pub enum Answer {
 }
 
 // An answer, and the loading state beside it.
-#[derive(Drop)]
+#[derive(Clone, Copy)]
 pub struct Reply {
     pub answer: Answer,
     pub loading: bool,

@@ -1,5 +1,5 @@
 // The answer of the load choice.
-#[derive(Drop)]
+#[derive(Clone, Copy)]
 pub enum LoadChoice {
     // the codes
     Refused { ah: u8, al: u8 },

@@ -1,4 +1,6 @@
 // Sub-function 2, control. It never looks at the store, and nothing turns loading off.
+#![tactic(auto)]
+
 ghost use Rattle.std.specs.Prelude.{◌≡◌};
 ghost use Rattle.call_control.specs.Control.{status_of, accepted, control_reply};
 

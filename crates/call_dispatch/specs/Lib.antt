@@ -1,5 +1,3 @@
 -- The four D042h calls behind one function (document 01, "The calls"): definitions, demand 1, then laws.
 pub mod Call
 pub mod Demand1
-pub mod CallLaws
-pub mod Demand1Laws

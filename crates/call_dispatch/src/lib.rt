@@ -1,4 +1,6 @@
 // The four D042h calls behind one function: it judges function and sub-function first, then hands on.
+#![tactic(auto)]
+
 ghost use Rattle.std.specs.Prelude.{◌≡◌};
 ghost use Rattle.call_dispatch.specs.Call.{inputs_of, unknown, call_reply, call_store, call_destination};
 ghost use Rattle.call_dispatch.specs.Demand1.{Demand1};

@@ -2,5 +2,3 @@
 pub mod IndexCall
 pub mod IndexedRead
 pub mod IndexCallLaws
-pub mod IndexedReadLaws
-pub mod IndexedRefusals

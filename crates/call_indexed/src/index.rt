@@ -10,7 +10,7 @@ use store_blocks::MOST_BLOCKS;
 use store_index::{COLUMNS, Index};
 
 // The codes of the call.
-#[derive(Drop)]
+#[derive(Clone, Copy)]
 pub struct IndexCodes {
     pub ah: u8,
     pub al: u8,
@@ -18,7 +18,7 @@ pub struct IndexCodes {
 }
 
 // An index, with the codes of the call.
-#[derive(Drop)]
+#[derive(Clone, Copy)]
 pub struct IndexReply {
     pub index: Index,
     pub codes: IndexCodes,

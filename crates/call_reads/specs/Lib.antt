@@ -3,5 +3,4 @@ pub mod Presence
 pub mod Read
 pub mod CopyBounds
 pub mod PresenceLaws
-pub mod ReadLaws
 pub mod ReadRefusals

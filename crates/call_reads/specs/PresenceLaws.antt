@@ -4,7 +4,7 @@ use Rattle.std.specs.Prelude.{ℕ, ◌/◌, ◌≡◌, true, false, List, length
 use Rattle.laws.specs.Unless.{unless_pass, unless_stop}
 use Rattle.store_blocks.specs.Blocks.{block_count}
 use Rattle.store_directory.specs.Scan.{store_ok, directory}
-use Rattle.store_directory.specs.StoreLaws.{directory_ok}
+use Rattle.store_directory.proofs.StoreLaws.{directory_ok}
 use Rattle.store_directory.specs.declared.Directory.{Directory}
 use Rattle.call_answers.specs.Answers.{refusal}
 use Rattle.call_answers.specs.declared.answer.Answer.{Answer}

@@ -10,7 +10,7 @@ use store_directory::kind;
 use store_directory::kind::Kind;
 
 // What the checks of a read find.
-#[derive(Drop)]
+#[derive(Clone, Copy)]
 pub enum ReadPlan {
     // so many blocks are to be copied
     Copy { blocks: u32 },

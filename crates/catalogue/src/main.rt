@@ -1,4 +1,6 @@
 // Reads a store from standard input and writes its catalogue.
+#![tactic(auto)]
+
 ghost use Rattle.std.specs.Prelude.{◌≡◌, length};
 ghost use Rattle.io.specs.Counts.{IsPrefixLen};
 ghost use Rattle.report_catalogue.specs.Catalogue.{input_room};

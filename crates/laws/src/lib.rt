@@ -1,1 +1,2 @@
 // General laws, in specs/. This crate has no code.
+#![tactic(auto)]

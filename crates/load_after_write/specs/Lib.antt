@@ -1,3 +1,2 @@
 -- What a processor loads after a write: the statement, then its proof.
 pub mod AfterWrite
-pub mod AfterWriteLaws

@@ -16,7 +16,7 @@ use Rattle.update_coverage.specs.Covers.{covers}
 use Rattle.update_verdict.specs.VerdictLaws.{judged, good_size}
 use Rattle.store_directory.specs.Scan.{slot_at, first, store_ok}
 use Rattle.store_directory.specs.SlotLaws.{slotted}
-use Rattle.store_directory.specs.ValidLaws.{store_valid}
+use Rattle.store_directory.proofs.ValidLaws.{store_valid}
 use Rattle.load_choice.specs.Load.{holds, holder, chosen_at, found, load_choice, chosen_data}
 use Rattle.call_answers.specs.declared.choice.LoadChoice.{LoadChoice}
 use Rattle.call_answers.specs.declared.choice.LoadChoice.TheVariants as choice

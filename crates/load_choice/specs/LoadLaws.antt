@@ -14,13 +14,13 @@ use Rattle.laws.specs.First.{first_found, first_none}
 use Rattle.laws.specs.Unless.{unless}
 use Rattle.update_header.specs.Fields.{revision}
 use Rattle.update_coverage.specs.Covers.{covers}
-use Rattle.update_coverage.specs.CoverLaws.{covers_platform}
+use Rattle.update_coverage.proofs.CoverLaws.{covers_platform}
 use Rattle.store_blocks.specs.Blocks.{from_block, block_count}
 use Rattle.store_directory.specs.Scan.{first, store_ok, directory}
-use Rattle.store_directory.specs.StoreLaws.{directory_ok, directory_good}
-use Rattle.store_directory.specs.ValidLaws.{store_valid}
+use Rattle.store_directory.proofs.StoreLaws.{directory_ok, directory_good}
+use Rattle.store_directory.proofs.ValidLaws.{store_valid}
 use Rattle.store_directory.specs.DirectoryEntries.{start_of}
-use Rattle.store_directory.specs.DirectoryLaws.{listing}
+use Rattle.store_directory.proofs.DirectoryLaws.{listing}
 use Rattle.store_directory.specs.declared.Directory.{Directory}
 use Rattle.load_choice.specs.Load.{holds, holder, chosen_at, found, load_choice}
 use Rattle.call_answers.specs.declared.choice.LoadChoice.{LoadChoice}

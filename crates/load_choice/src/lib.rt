@@ -1,4 +1,6 @@
 // The load choice at start-up: which stored update a processor gets, and its data as a part of the lent store.
+#![tactic(auto)]
+
 ghost use Rattle.std.specs.Prelude.{◌≡◌, true};
 ghost use Rattle.store_directory.specs.Scan.{directory};
 ghost use Rattle.load_choice.specs.Load.{found, load_choice, chosen_data};

@@ -1,3 +1,2 @@
 -- The load choice through an index (document 02, One): definitions, then laws.
 pub mod IndexedLoad
-pub mod IndexedLoadLaws

@@ -1,4 +1,6 @@
 // The load choice through an index.
+#![tactic(auto)]
+
 ghost use Rattle.std.specs.Prelude.{◌≡◌, true};
 ghost use Rattle.store_directory.specs.Scan.{store_ok};
 ghost use Rattle.store_index.specs.Index.{index_of};

@@ -1,8 +1,6 @@
 -- Which listed processors an update covers, kept in an array of eight beside the list.
 --   needed_by_marks             the update covers listed processor i, which the marks say the candidate doesn't
 --   Covered                 the marks are right for all listed processors
---   one_is, needed_by_is    from right marks to the definitions
---   unmarked                the test of a mark, as `search` takes it
 use Rattle.std.specs.Prelude.{ℕ, ◌≡◌, Bool, true, false, not, ◌&&◌, List, length}
 use Rattle.std.proofs.Common.{◌∙◌}
 use Rattle.laws.specs.Below.{any_below, any_cong}
@@ -15,25 +13,3 @@ needed_by_marks list marks u i = covers_listed list u i && not (mark_at marks i)
 -- the marks are right for all listed processors
 abbrev pub Covered : ProcessorList → List ℕ → List Bool → Type 0
 Covered list cand marks = Filled false 8 (covers_listed list cand) (length list.signatures) marks
-
-module _ (list : ProcessorList) (cand : List ℕ) (marks : List Bool) (right : Covered list cand marks) where
-  pub one_is : (r : Bool) → r ≡ any_below (length list.signatures) (mark_at marks) → r ≡ covers_one list cand
-  unfolding covers_one mark_at
-  one_is r e = e ∙ any_cong (mark_at marks) (covers_listed list cand) (length list.signatures) (λ k l. right.each k l)
-
-  pub needed_by_is : (u : List ℕ) (r : Bool) → r ≡ any_below (length list.signatures) (needed_by_marks list marks u) → r ≡ is_needed list cand u
-  unfolding is_needed needed_for needed_by_marks mark_at
-  needed_by_is u r e = e ∙ any_cong (needed_by_marks list marks u) (needed_for list cand u) (length list.signatures) (λ k l. rw (right.each k l))
-
--- r is what a call answered, m a mark
-module _ (r a m : Bool) (e : r ≡ a) where
-  pub unmarked_no : r ≡ false → false ≡ a && not m
-  unmarked_no h = rw (← e, h)
-
-  pub unmarked_yes : r ≡ true → m ≡ false → true ≡ a && not m
-  unmarked_yes h k = rw (← e, h, k)
-
-  pub unmarked_marked : r ≡ true → m ≡ true → false ≡ a && not m
-  unmarked_marked h k = rw (← e, h, k)
-
-pub ruleset unmarked = (unmarked_no, unmarked_yes, unmarked_marked)

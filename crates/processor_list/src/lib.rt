@@ -1,4 +1,6 @@
 // The board's processor list, and which of its processors an update covers.
+#![tactic(auto)]
+
 ghost use Rattle.std.specs.Prelude.{◌≡◌, ◌≤◌, ◌<◌, not, ◌&&◌, length};
 ghost use Rattle.update_coverage.specs.Covers.{pairs_of};
 ghost use Rattle.laws.specs.Below.{any_below};

@@ -2,6 +2,3 @@
 pub mod Catalogue
 pub mod Reported
 pub mod Walk
-pub mod WalkLaws
-pub mod LineLaws
-pub mod CatalogueLaws

@@ -1,4 +1,6 @@
 // The catalogue of a store, written into a lent buffer. It takes any bytes, of any length.
+#![tactic(auto)]
+
 mod lines;
 
 ghost use Rattle.std.specs.Prelude.{◌≡◌, true, ◌≤◌, length};

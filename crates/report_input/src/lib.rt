@@ -1,4 +1,6 @@
 // Input that arrives in pieces, gathered in a lent buffer.
+#![tactic(auto)]
+
 ghost use Rattle.std.specs.Prelude.{◌≡◌};
 ghost use Rattle.report_input.specs.Input.{fitting, count_with, bytes_with};
 

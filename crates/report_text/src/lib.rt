@@ -1,4 +1,6 @@
 // A text for people: what is written behind it while it is being made, and the text put into a lent buffer.
+#![tactic(auto)]
+
 pub mod give;
 
 ghost use Rattle.std.specs.Prelude.{◌≡◌, ◌+◌, ◌≤◌, ◌<◌, [], ◌∷◌, length};
@@ -9,7 +11,7 @@ ghost use Rattle.report_text.specs.Texts.{text_room, no_text, added};
 pub const ROOM: usize = 1024;
 
 // What became of a text.
-#[derive(Drop)]
+#[derive(Clone, Copy)]
 pub enum Report {
     // it stands in the buffer's first `length` bytes
     Text { length: u32 },
@@ -18,7 +20,7 @@ pub enum Report {
 }
 
 // A text that is being made.
-#[derive(Drop)]
+#[derive(Clone, Copy)]
 pub struct Text {
     pub bytes: [u8; ROOM],
     // how many of them count

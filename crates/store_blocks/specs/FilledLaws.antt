@@ -13,7 +13,7 @@ use Rattle.laws.specs.Bools.{bool_same}
 use Rattle.laws.specs.Below.{all_below, all_none, all_more, all_at, all_true, all_stop, all_cong}
 use Rattle.laws.specs.Same.{Same}
 use Rattle.bytes_dwords.specs.Dword.{dword}
-use Rattle.bytes_dwords.specs.DwordLaws.{dword_most, dword_bytes, dword_made}
+use Rattle.bytes_dwords.proofs.DwordLaws.{dword_most, dword_bytes, dword_made}
 use Rattle.store_blocks.specs.Blocks.{is_ff, filled, unused}
 
 -- byte m

@@ -3,4 +3,3 @@ pub mod Blocks
 pub mod Slot
 pub mod FilledLaws
 pub mod LengthLaws
-pub mod SlotCases

@@ -1,4 +1,6 @@
 // Blocks of 2,048 bytes, whether bytes are all FFh, and what stands at a block.
+#![tactic(auto)]
+
 pub mod slot;
 
 ghost use Rattle.std.specs.Prelude.{◌≡◌, ◌+◌, ◌%◌, ◌≤◌, ◌<◌, length};

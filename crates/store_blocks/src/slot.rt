@@ -6,7 +6,7 @@ ghost use Rattle.store_blocks.specs.Slot.{fits, slot_of};
 use crate::{BLOCK, filled, unused};
 use update_verdict::Verdict;
 
-#[derive(Drop)]
+#[derive(Clone, Copy)]
 pub enum Slot {
     Unused,
     // the first block of a valid update of so many blocks

@@ -1,9 +1,9 @@
 -- Laws of the blocks that the reading passes, and of the list of first blocks.
 --   later_blocks       the blocks behind the first of a slot begin none
 --   next_begins        the block behind a slot begins one
---   entry_first        each first block is numbers-below
---   first_entry        each numbers-below block is a first block below n
---   starts_increase    they are numbers-below in order
+--   entry_first        each first block is numbers_below
+--   first_entry        each numbers_below block is a first block below n
+--   starts_increase    they are numbers_below in order
 --   sizes_long, entry_sizes    beside each stands its size
 --   few_starts         there are no more than blocks
 use Prim.Native.Nat.{ℕ, zero, suc, ◌+◌, ◌<◌, ◌≤◌}

@@ -8,11 +8,8 @@ pub mod SlotLaws
 pub mod BlockLaws
 pub mod ScanLaws
 pub mod ClashLaws
-pub mod StoreLaws
 pub mod LayoutLaws
-pub mod ValidLaws
 pub mod KindLaws
 pub mod DirectoryLaws
-pub mod PairedLaws
 pub mod OldStores
 pub mod OldStoreLaws

@@ -5,7 +5,7 @@ ghost use Rattle.store_directory.specs.Kind.{kind_if, kind_in};
 
 use crate::Directory;
 
-#[derive(Drop)]
+#[derive(Clone, Copy)]
 pub enum Kind {
     // in no update
     Unused,

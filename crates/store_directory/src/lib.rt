@@ -1,5 +1,7 @@
 // The directory of a store: the stored updates in the order of their first blocks, where the store is valid.
 // Every function that judges or lists a store takes any bytes, of any length.
+#![tactic(auto)]
+
 mod clash;
 pub mod kind;
 mod scan;
@@ -9,7 +11,7 @@ ghost use Rattle.store_directory.specs.Scan.{bad_store, directory};
 
 use store_blocks::MOST_BLOCKS;
 
-#[derive(Drop)]
+#[derive(Clone, Copy)]
 pub struct Directory {
     // the store is valid
     pub ok: bool,

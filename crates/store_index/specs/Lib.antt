@@ -7,11 +7,7 @@ pub mod UpdateLines
 pub mod OwnLines
 pub mod AfterLines
 pub mod SameIndexLaws
-pub mod LineLaws
 pub mod UpdateLineLaws
-pub mod OwnIndex
 pub mod IndexLines
 pub mod OwnLineLaws
-pub mod OwnIndexLaws
-pub mod AfterLineLaws
 pub mod IndexExamples

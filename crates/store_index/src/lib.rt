@@ -1,5 +1,7 @@
 // The index of a store: for each of up to 32 blocks what it is, and of which update. By value it is a struct of four arrays; where it is lent,
 // the four arrays stand one behind the other.
+#![tactic(auto)]
+
 pub mod after;
 mod lines;
 pub mod own;
@@ -31,7 +33,7 @@ pub const SIZES: usize = 3;
 pub const COLUMNS: usize = 4;
 
 // What the index says of one block: its kind; of a block of an update its first block, its revision and its size in blocks.
-#[derive(Drop)]
+#[derive(Clone, Copy)]
 pub struct Line {
     pub kind: u32,
     pub start: u32,
@@ -39,7 +41,7 @@ pub struct Line {
     pub size: u32,
 }
 
-#[derive(Drop)]
+#[derive(Clone, Copy)]
 pub struct Index {
     pub kinds: [u32; MOST_BLOCKS],
     pub starts: [u32; MOST_BLOCKS],

@@ -3,7 +3,7 @@
 ghost use Rattle.std.specs.Prelude.{◌≡◌, ◌+◌, ◌&&◌};
 ghost use Rattle.test_all_outcomes.specs.SmallLayouts.{unused, block_bytes, spoilt, with_update, kind_size, with_kind, codes, coded, owns, both_marks};
 
-#[derive(Drop)]
+#[derive(Clone, Copy)]
 pub struct Layout {
     pub good: bool,
     pub blocks: u32,

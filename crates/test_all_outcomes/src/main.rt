@@ -1,5 +1,7 @@
 // Tries the write call on every small store, and compares each answer and each store afterwards with the best of all outcomes, found by
 // going through them one by one.
+#![tactic(auto)]
+
 mod layout;
 mod make;
 mod outcomes;

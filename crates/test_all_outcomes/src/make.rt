@@ -7,7 +7,7 @@ use crate::layout::Layout;
 use test_samples::{bytes, make as sample};
 
 // One signature and its flags.
-#[derive(Drop)]
+#[derive(Clone, Copy)]
 struct Cover {
     signature: u32,
     flags: u32,

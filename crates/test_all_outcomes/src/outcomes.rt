@@ -6,12 +6,12 @@ use crate::layout;
 use crate::layout::Layout;
 
 // A set of the at most four updates.
-#[derive(Drop)]
+#[derive(Clone, Copy)]
 pub struct Set {
     pub has: [bool; 4],
 }
 
-#[derive(Drop)]
+#[derive(Clone, Copy)]
 pub struct Outcome {
     pub found: bool,
     pub start: u32,

@@ -7,7 +7,7 @@ use crate::trial::Seen;
 use crate::{layout, make, trial};
 use call_answers::code;
 
-#[derive(Drop)]
+#[derive(Clone, Copy)]
 pub struct Tally {
     pub writes: u32,
     pub both_marks: u32,

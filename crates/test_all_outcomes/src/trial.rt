@@ -12,7 +12,7 @@ use call_answers::{answer, code};
 use test_samples::bytes;
 
 // What was seen of one write: whether it was as it should be, and its AL or its emptied count.
-#[derive(Drop)]
+#[derive(Clone, Copy)]
 pub struct Seen {
     pub same: bool,
     pub written: bool,

@@ -1,4 +1,6 @@
 // Runs cases of the calls and of the index on the board's C interface, and writes for each the result and the 16 answer words.
+#![tactic(auto)]
+
 mod calls;
 mod carried;
 mod indexed;

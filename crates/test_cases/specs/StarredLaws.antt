@@ -15,7 +15,7 @@ use Rattle.bytes_dwords.specs.Dword.{little, dword}
 use Rattle.bytes_dwords.specs.Sum.{dwords_of, total, dword_sum}
 use Rattle.update_sizes.specs.Sizes.{data_size_of, total_size_of, sizes_ok, entries_of, blocks_of, entry_offset}
 use Rattle.update_header.specs.Fields.{data_size, total_size, table_count, entry_count}
-use Rattle.update_sizes.specs.SizeLaws.{sizes_sized, too_long, plain}
+use Rattle.update_sizes.proofs.SizeLaws.{sizes_sized, too_long, plain}
 use Rattle.update_header.specs.Checks.{header_ok, sizes_fit}
 use Rattle.update_header.specs.Inside.{inside}
 use Rattle.update_verdict.specs.Sums.{sum_of, header_sum, entry_ok, table, sums_ok}

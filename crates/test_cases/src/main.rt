@@ -1,4 +1,6 @@
 // Runs document 01's cases of updates, of a store and of the calls that only read, and writes a line for each.
+#![tactic(auto)]
+
 mod covers;
 mod flags;
 mod lines;

@@ -1,33 +1,35 @@
 // What the programs write to standard output.
-use libc::STDOUT_FILENO;
+#![tactic(auto)]
 
-pub fn text(s: &[u8]) {
-    io::write_all(STDOUT_FILENO, s);
+use std::io;
+use std::io::Print;
+
+pub fn text<P: Print>(out: &P, s: &[u8]) -> io::Result<()> {
+    out.write_all(s)
 }
 
 // A number behind a label.
-pub fn number(label: &[u8], n: u32) {
-    text(label);
-    io::print_decimal(STDOUT_FILENO, n as u64);
+pub fn number<P: Print>(out: &P, label: &[u8], n: u32) -> io::Result<()> {
+    text(out, label)?;
+    print!(out; "{n}")
 }
 
 // A number of two hex digits behind a label.
-pub fn code(label: &[u8], n: u32) {
-    text(label);
-    io::print_hex(STDOUT_FILENO, n as u64, 2);
+pub fn code<P: Print>(out: &P, label: &[u8], n: u32) -> io::Result<()> {
+    text(out, label)?;
+    print!(out; "{n:02x}")
 }
 
 // A number of eight hex digits behind a label.
-pub fn dword(label: &[u8], n: u32) {
-    text(label);
-    io::print_hex(STDOUT_FILENO, n as u64, 8);
+pub fn dword<P: Print>(out: &P, label: &[u8], n: u32) -> io::Result<()> {
+    text(out, label)?;
+    print!(out; "{n:08x}")
 }
 
 // The 16 answer words, each behind a space.
-pub fn words(answer: &[u32; 16]) {
-    let mut i: usize = 0;
-    while i < 16 {
-        number(b" ", answer[i]);
-        i += 1;
+pub fn words<P: Print>(out: &P, answer: &[u32; 16]) -> io::Result<()> {
+    for n in answer {
+        number(out, b" ", *n)?;
     }
+    Ok(())
 }

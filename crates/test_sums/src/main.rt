@@ -1,4 +1,6 @@
 // Sums slices of 0 to 8,192 dwords, with up to three bytes behind them, and slices that begin inside a dword, and writes a line for each.
+#![tactic(auto)]
+
 use test_samples::bytes;
 
 // Dword k is k + 1 times 9E3779B9h, modulo 2^32: a sum that leaves one out, adds one twice or counts bytes behind the last shows it.

@@ -10,7 +10,7 @@ use crate::state::State;
 use crate::{digest, input, lines, state};
 
 // The operands of one of the four calls.
-#[derive(Drop)]
+#[derive(Clone, Copy)]
 pub struct CallOperands {
     pub function: u32,
     pub sub_function: u32,
@@ -22,7 +22,7 @@ pub struct CallOperands {
 }
 
 // The operands of a load choice.
-#[derive(Drop)]
+#[derive(Clone, Copy)]
 pub struct LoadOperands {
     pub signature: u32,
     pub platform: u32,

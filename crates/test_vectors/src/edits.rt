@@ -15,7 +15,7 @@ const FOLLOWING: usize = 1024;
 type Following = [u8; FOLLOWING];
 
 // Bytes to be set: to those that follow in the input, or all to one byte.
-#[derive(Drop)]
+#[derive(Clone, Copy)]
 pub struct Edit {
     pub buffer: u8,
     pub offset: u32,

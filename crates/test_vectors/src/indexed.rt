@@ -11,7 +11,7 @@ use crate::state::State;
 use crate::{calls, digest, input, lines, state};
 
 // The operands of a read through the index.
-#[derive(Drop)]
+#[derive(Clone, Copy)]
 pub struct ReadOperands {
     pub block: u32,
     pub good: bool,

@@ -11,7 +11,7 @@ use crate::{digest, input, lines, state};
 use store_blocks::MOST_BLOCKS;
 
 // The operands of an index carried over a write.
-#[derive(Drop)]
+#[derive(Clone, Copy)]
 pub struct AfterOperands {
     pub emptied: u32,
     pub start: u32,
@@ -21,7 +21,7 @@ pub struct AfterOperands {
 }
 
 // The operands of a number of the index.
-#[derive(Drop)]
+#[derive(Clone, Copy)]
 pub struct PutOperands {
     pub place: u8,
     pub number: u32,

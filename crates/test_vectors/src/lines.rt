@@ -2,7 +2,7 @@
 use crate::state::State;
 
 // The line of a call: its result, the answer words, and the digests of the store and the destination.
-#[derive(Drop)]
+#[derive(Clone, Copy)]
 pub struct Line {
     pub result: u32,
     pub answer: [u32; 16],
@@ -11,7 +11,7 @@ pub struct Line {
 }
 
 // The line of a call that makes an index, with its digest behind.
-#[derive(Drop)]
+#[derive(Clone, Copy)]
 pub struct IndexLine {
     pub line: Line,
     pub index: u32,

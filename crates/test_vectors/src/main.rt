@@ -1,4 +1,6 @@
 // Runs test vectors on the board's C interface: reads steps from standard input, makes the calls, and writes a line for each.
+#![tactic(auto)]
+
 mod buffers;
 mod calls;
 mod digest;

@@ -2,7 +2,7 @@
 ghost use Rattle.std.specs.Prelude.{◌≡◌};
 ghost use Rattle.test_vectors.specs.RunState.{begun, judged, called};
 
-#[derive(Drop)]
+#[derive(Clone, Copy)]
 pub struct State {
     // false after a step that breaks a bound
     pub good: bool,

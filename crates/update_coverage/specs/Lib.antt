@@ -1,7 +1,3 @@
 -- Which processors an update covers (document 01, "The update"): definitions, then the laws that the code and the layers above use.
 pub mod Covers
-pub mod PairLaws
-pub mod CoverLaws
-pub mod CoverageOtherData
 pub mod Platforms
-pub mod PlatformLaws

@@ -1,5 +1,7 @@
 // The processors that an update covers. Its pairs of a signature and flags are the header's (pair 0) and those of the entries (entry k is
 // pair k + 1).
+#![tactic(auto)]
+
 pub mod platforms;
 
 ghost use Rattle.std.specs.Prelude.{◌≡◌, ◌≤◌, ◌<◌};
@@ -10,7 +12,7 @@ use update_header::{checks, fields};
 use update_sizes::{ENTRY, HEADER, TABLE_HEAD};
 
 // One reading of an update's header: the number of data bytes, behind which the entries stand, that of the pairs, and pair 0.
-#[derive(Drop)]
+#[derive(Clone, Copy)]
 pub struct Pairs {
     pub data: u32,
     pub count: u32,

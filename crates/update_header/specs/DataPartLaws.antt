@@ -8,7 +8,7 @@ use native.Mathlib.Omega.{arith}
 use Rattle.std.proofs.Math.ListN.{length-drop}
 use Rattle.std.proofs.Math.Seq.{take-nil, take_all}
 use Rattle.laws.specs.Same.{Same, same_less, same_drop, same_take}
-use Rattle.bytes_dwords.specs.DwordLaws.{dword_same}
+use Rattle.bytes_dwords.proofs.DwordLaws.{dword_same}
 use Rattle.update_header.specs.Fields.{data_size}
 use Rattle.update_header.specs.DataPart.{data_part}
 

@@ -7,7 +7,8 @@ use Rattle.std.proofs.Common.{sym, ◌∙◌}
 use borrow.Author.Tests.{leb-true}
 use Rattle.laws.specs.Bools.{and_parts}
 use Rattle.update_sizes.specs.Sizes.{sizes_ok, entries_of}
-use Rattle.update_sizes.specs.SizeLaws.{Sized, sizes_sized}
+use Rattle.update_sizes.specs.SizeLaws.{Sized}
+use Rattle.update_sizes.proofs.SizeLaws.{sizes_sized}
 use Rattle.update_header.specs.Fields.{data_size, total_size, table_count, entry_count}
 use Rattle.update_header.specs.Checks.{sizes_fit}
 

@@ -7,7 +7,7 @@ use Rattle.std.specs.Prelude.{ℕ, ◌+◌, ◌<◌, ◌≤◌, ◌≡◌, List,
 use Rattle.std.proofs.Common.{sym, ap, ◌∙◌, arith}
 use Rattle.laws.specs.Below.{any_cong}
 use Rattle.laws.specs.Same.{Same}
-use Rattle.bytes_dwords.specs.DwordLaws.{dword_same}
+use Rattle.bytes_dwords.proofs.DwordLaws.{dword_same}
 use Rattle.update_header.specs.Fields.{data_size}
 use Rattle.update_verdict.specs.Verdict.{verdict}
 use Rattle.update_verdict.specs.VerdictLaws.{Judged, judged}
@@ -15,7 +15,7 @@ use Rattle.update_verdict.specs.VerdictLocal.{verdict_local, data_local}
 use Rattle.update_verdict.specs.declared.Verdict.TheVariants.{Good}
 use Rattle.update_coverage.specs.Covers.{pair_count, signature_offset, flags_offset, signature_at, flags_at, platforms_at, covers_at, covers}
 use Rattle.update_sharing.specs.Shares.{Shares}
-use Rattle.update_coverage.specs.PairLaws.{pair_inside, pairs_made}
+use Rattle.update_coverage.proofs.PairLaws.{pair_inside, pairs_made}
 
 module _ (s r : List ℕ) (t d n k : ℕ) (good : verdict s ≡ Good t d n k) (same : Same s r t) (long : t ≤ length r) where
   here : Judged s t d n k

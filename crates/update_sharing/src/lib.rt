@@ -1,4 +1,6 @@
 // Whether two updates share a processor, listed or not.
+#![tactic(auto)]
+
 ghost use Rattle.std.specs.Prelude.{◌≡◌, ◌<◌};
 ghost use Rattle.update_coverage.specs.Covers.{pair_count, pairs_of, signature_at, platforms_at};
 ghost use Rattle.laws.specs.Count.{count_below};

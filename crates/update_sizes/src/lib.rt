@@ -1,4 +1,6 @@
 // The sizes of an update, as numbers: what D and T mean, the rule for them, the number of entries and of blocks.
+#![tactic(auto)]
+
 ghost use Rattle.std.specs.Prelude.{◌≡◌};
 ghost use Rattle.update_sizes.specs.Sizes.{data_size_of, total_size_of, sizes_ok, entries_of, blocks_of};
 

@@ -8,7 +8,7 @@ use Rattle.std.proofs.Common.{sym, ◌∙◌, ap, arith, length-take, length-dro
 use Rattle.laws.specs.Below.{all_below}
 use Rattle.laws.specs.Tests.{and_stop, and_next}
 use Rattle.bytes_dwords.specs.Sum.{dword_sum}
-use Rattle.bytes_dwords.specs.DwordSumLaws.{sum_append}
+use Rattle.bytes_dwords.proofs.DwordSumLaws.{sum_append}
 use Rattle.update_header.specs.Fields.{data_size, total_size, entry_count}
 use Rattle.update_verdict.specs.Sums.{sum_of, header_sum, entry_ok, table, sums_ok}
 use Rattle.update_header.specs.Inside.{Inside}

@@ -7,7 +7,8 @@ use Rattle.laws.specs.Unless.{unless}
 use Rattle.bytes_dwords.specs.Sum.{dword_sum}
 use Rattle.update_header.specs.Fields.{data_size, total_size, entry_count}
 use Rattle.update_sizes.specs.Sizes.{entry_offset}
-use Rattle.update_header.specs.HeaderOtherData.{OtherData, field_data, table_data, data_size_lem, total_size, entry_count_data, header_data, fit_data}
+use Rattle.update_header.specs.HeaderOtherData.{OtherData}
+use Rattle.update_header.proofs.HeaderOtherData.{field_data, table_data, data_size_lem, total_size_lem, entry_count_data, header_data, fit_data}
 use Rattle.update_verdict.specs.Sums.{header_sum, entry_ok, table, sums_ok}
 use Rattle.update_verdict.specs.Verdict.{verdict}
 
@@ -20,7 +21,7 @@ module _ (s r : List ℕ) (o : OtherData s r) where
 
   table_same : table s ≡ table r
   unfolding table
-  table_same = rw (← data_size_lem s r o, ← total_size s r o, rest_data)
+  table_same = rw (← data_size_lem s r o, ← total_size_lem s r o, rest_data)
 
   entry_same : (want k : ℕ) → entry_ok s (data_size s) want k ≡ entry_ok r (data_size s) want k
   unfolding entry_ok entry_offset
@@ -41,7 +42,7 @@ module _ (s r : List ℕ) (o : OtherData s r) where
     unfolding sums_ok
     sums_data =
         rw (
-          ← total_size s r o,
+          ← total_size_lem s r o,
           e,
           table_same,
           ← entry_count_data s r o,
@@ -52,4 +53,4 @@ module _ (s r : List ℕ) (o : OtherData s r) where
 
     pub verdict_data : verdict s ≡ verdict r
     unfolding verdict unless
-    verdict_data = rw (header_data s r o, fit_data s r o, sums_data, total_size s r o, data_size_lem s r o, entry_count_data s r o)
+    verdict_data = rw (header_data s r o, fit_data s r o, sums_data, total_size_lem s r o, data_size_lem s r o, entry_count_data s r o)

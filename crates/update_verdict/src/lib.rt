@@ -1,4 +1,6 @@
 // The verdict on any bytes: a candidate, or what lies in the store from a block on. Every public function takes any bytes, of any length.
+#![tactic(auto)]
+
 mod sums;
 
 ghost use Rattle.std.specs.Prelude.{◌≡◌};
@@ -6,7 +8,7 @@ ghost use Rattle.update_verdict.specs.Verdict.{verdict};
 
 use update_header::{checks, fields};
 
-#[derive(Drop)]
+#[derive(Clone, Copy)]
 pub enum Verdict {
     // T, the number of data bytes, of entries and of blocks
     Good {

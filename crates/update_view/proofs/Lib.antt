@@ -1,3 +1,2 @@
--- What the proofs of several functions use.
-pub mod One
-pub mod Apart
+-- The laws of the definitions in specs/, for this crate and those above it.
+pub mod ViewLaws

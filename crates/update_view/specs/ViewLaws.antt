@@ -1,8 +1,5 @@
 -- Laws of views.
---   viewing         the bytes of a view by the verdict, as `search` takes them
 --   Seen, seen      the view of a good update is that update: its verdict, fields, sizes and data
---   only_good       a view holds bytes only of a good update
---   holds_update    a view of s holds bytes exactly if an update begins s
 use Rattle.std.specs.Prelude.{ℕ, ◌+◌, ◌≤◌, ◌≡◌, refl, true, List, length, get_or, take, drop}
 use Rattle.std.proofs.Math.Path.{sym}
 use Rattle.std.proofs.Common.{ap, ◌∙◌, true≢false, arith, get_or-take, length-take-le}
@@ -20,26 +17,6 @@ use Rattle.update_verdict.specs.declared.Verdict.{Verdict}
 use Rattle.update_verdict.specs.declared.Verdict.TheVariants.{Good, BadHeader, BadSum}
 use Rattle.update_view.specs.View.{viewed_by, viewed, is_good, is_update, holds_bytes}
 
--- c is the verdict that is matched
-module _ (s : List ℕ) (c : Verdict) (e : c ≡ verdict s) where
-  module _ (t d n k : ℕ) (h : c ≡ Good t d n k) where
-    pub view_count : t ≡ length (take t s)
-    view_count = sym (length-take-le t s (good_size s t d n k (sym e ∙ h)).2)
-
-    pub view_good : take t s ≡ viewed s
-    unfolding viewed viewed_by
-    view_good = rw (← e, h)
-
-  pub view_header : c ≡ BadHeader → take 0 s ≡ viewed s
-  unfolding viewed viewed_by
-  view_header h = rw (← e, h)
-
-  pub view_sum : c ≡ BadSum → take 0 s ≡ viewed s
-  unfolding viewed viewed_by
-  view_sum h = rw (← e, h)
-
-pub ruleset viewing = (view_count, view_good, view_header, view_sum)
-
 -- the view of a good update is that update, with its fields, its T and its data
 pub record Seen (s : List ℕ) (t d n k : ℕ) : Type 0 where
   pub update : holds_bytes (viewed s) ≡ true
@@ -54,59 +31,3 @@ pub record Seen (s : List ℕ) (t d n k : ℕ) : Type 0 where
   pub total : length (viewed s) ≡ t
   pub data_same : data_part (viewed s) ≡ data_part s
   pub data_long : length (data_part (viewed s)) ≡ d
-
-module _ (s : List ℕ) (t d n k : ℕ) (g : verdict s ≡ Good t d n k) where
-  size : (48 ≤ t) × (t ≤ 32768) × (t ≤ length s) × (48 + d ≤ t)
-  size = good_size s t d n k g
-
-  front : take t s ≡ viewed s
-  front = view_good s (verdict s) refl t d n k g
-
-  long : length (viewed s) ≡ t
-  long = rw (← front) (length-take-le t s size.2)
-
-  same : Same s (viewed s) t
-  same i l = sym (get_or-take t s i 0 l) ∙ ap (λ (v : List ℕ). get_or v i 0) front
-
-  field : (i : ℕ) → i + 4 ≤ 48 → dword (viewed s) i ≡ dword s i
-  field i l = sym (field_local s (viewed s) t d n k g same (omega (arith, long)) i l)
-
-  counted : d ≡ data_size (viewed s)
-  counted = (judged s t d n k g).«data» ∙ data_local s (viewed s) t d n k g same (omega (arith, long))
-
-  pub seen : Seen s t d n k
-  unfolding data_part
-  seen = record {
-    update = lt-ltb 0 (length (viewed s)) (omega (arith, long, size));
-    good = verdict_local s (viewed s) t d n k g same (omega (arith, long));
-    version_same = field 0 (omega arith);
-    revision_same = field 4 (omega arith);
-    date_same = field 8 (omega arith);
-    signature_same = field 12 (omega arith);
-    checksum_same = field 16 (omega arith);
-    loader_version_same = field 20 (omega arith);
-    flags_same = field 24 (omega arith);
-    total = long;
-    data_same = sym (part_same s (viewed s) t (omega (arith, (judged s t d n k g).«data», size)) size.2 (omega (arith, long)) same);
-    data_long = rw (← counted) (length-take-le d (drop 48 (viewed s)) (omega (arith, length-drop 48 (viewed s), long, size)));
-  }
-
--- a view holds bytes only of a good update
-pub only_good : (s : List ℕ) → holds_bytes (viewed s) ≡ true → (t : ℕ) × (d : ℕ) × (n : ℕ) × (k : ℕ) × (verdict s ≡ Good t d n k)
-unfolding viewed viewed_by
-only_good s h = go (verdict s) refl h
-  where
-    go : (c : Verdict) → verdict s ≡ c → holds_bytes (viewed_by s c) ≡ true → (t : ℕ) × (d : ℕ) × (n : ℕ) × (k : ℕ) × (verdict s ≡ Good t d n k)
-    go (Good t d n k) e h = (t, d, n, k, e)
-    go BadHeader e h = absurd (true≢false (sym h))
-    go BadSum e h = absurd (true≢false (sym h))
-
--- a view of s holds bytes exactly if an update begins s
-pub holds_update : (s : List ℕ) → holds_bytes (viewed s) ≡ is_update s
-unfolding viewed viewed_by is_update
-holds_update s = go (verdict s) refl
-  where
-    go : (c : Verdict) → verdict s ≡ c → holds_bytes (viewed_by s c) ≡ is_good c
-    go (Good t d n k) e = ap (λ (c : Verdict). holds_bytes (viewed_by s c)) (sym e) ∙ (seen s t d n k e).update
-    go BadHeader e = refl
-    go BadSum e = refl

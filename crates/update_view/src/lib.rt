@@ -1,5 +1,7 @@
 // A view of an update: a struct that holds a reference to the update's bytes, and thin functions that give its header fields, its sizes and
 // its data. Each takes the view apart and calls a function of a plain slice. A caller that wants the numbers by value calls `summary`.
+#![tactic(auto)]
+
 ghost use Rattle.std.specs.Prelude.{◌≡◌, length};
 ghost use Rattle.update_header.specs.DataPart.{data_part};
 ghost use Rattle.update_header.specs.Fields.{version, revision, date, signature, checksum, loader_version, flags};
@@ -11,7 +13,7 @@ use update_header::fields;
 
 pub mod parts;
 
-#[derive(Drop)]
+#[derive(Clone, Copy)]
 pub struct UpdateView<'a> {
     pub bytes: &'a [u8],
 }

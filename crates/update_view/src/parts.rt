@@ -7,7 +7,7 @@ use update_header::data::data_part;
 use update_verdict::Verdict;
 
 // The numbers that a view gives, by value.
-#[derive(Drop)]
+#[derive(Clone, Copy)]
 pub struct Summary {
     pub ok: bool,
     pub header_version: u32,

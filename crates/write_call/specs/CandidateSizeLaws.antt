@@ -13,7 +13,7 @@ use Rattle.update_verdict.specs.VerdictLaws.{Judged, judged}
 use Rattle.update_verdict.specs.declared.Verdict.{Verdict}
 use Rattle.update_verdict.specs.declared.Verdict.TheVariants.{Good}
 use Rattle.update_coverage.specs.Covers.{pair_count, pairs_of}
-use Rattle.update_coverage.specs.PairLaws.{pairs_made}
+use Rattle.update_coverage.proofs.PairLaws.{pairs_made}
 use Rattle.update_coverage.specs.declared.Pairs.{Pairs}
 use Rattle.write_call.specs.declared.Sizes.{Sizes}
 use Rattle.write_call.specs.CandidateSizes.{sizes_of}

@@ -7,11 +7,12 @@ use Rattle.laws.specs.Bools.{and_parts, and_made}
 use Rattle.laws.specs.Below.{any_at, any_stop}
 use Rattle.update_header.specs.Fields.{revision}
 use Rattle.update_sharing.specs.Shares.{shares}
-use Rattle.update_sharing.specs.ShareLaws.{shares_law}
+use Rattle.update_sharing.proofs.ShareLaws.{shares_law}
 use Rattle.store_blocks.specs.Blocks.{from_block}
 use Rattle.store_directory.specs.Scan.{store_ok, directory}
 use Rattle.store_directory.specs.DirectoryEntries.{start_of}
-use Rattle.store_directory.specs.DirectoryLaws.{Listing, listing}
+use Rattle.store_directory.specs.DirectoryLaws.{Listing}
+use Rattle.store_directory.proofs.DirectoryLaws.{listing}
 use Rattle.write_plan.specs.CandidateMarks.{shares_entry, outdates, outdated}
 use Rattle.write_call.specs.Outdated.{Outdated}
 

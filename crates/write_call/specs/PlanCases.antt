@@ -10,7 +10,7 @@ use Rattle.update_verdict.specs.declared.Verdict.{Verdict}
 use Rattle.update_verdict.specs.declared.Verdict.TheVariants.{Good, BadHeader, BadSum}
 use Rattle.store_blocks.specs.Blocks.{block_count}
 use Rattle.store_directory.specs.Scan.{directory}
-use Rattle.store_directory.specs.StoreLaws.{directory_ok}
+use Rattle.store_directory.proofs.StoreLaws.{directory_ok}
 use Rattle.store_directory.specs.declared.Directory.{Directory}
 use Rattle.write_placement.specs.Agree.{choose_same, both_marks_same}
 use Rattle.write_plan.specs.PlanLaws.{placed_same}
@@ -23,7 +23,8 @@ use Rattle.call_answers.specs.Codes.{read_failure, cpu_not_present, invalid_revi
 use Rattle.write_plan.specs.VerdictCode.{verdict_ah}
 use Rattle.write_plan.specs.declared.Plan.{Plan}
 use Rattle.write_plan.specs.declared.Plan.TheVariants.{Refuse}
-use Rattle.processor_list.specs.Covered.{Covered, one_is}
+use Rattle.processor_list.specs.Covered.{Covered}
+use Rattle.processor_list.proofs.CoveredLaws.{one_is}
 use Rattle.write_plan.specs.CandidateMarks.{stored_updates, outdated}
 use Rattle.write_plan.specs.RightMarks.{Marks}
 use Rattle.write_plan.specs.CandidateMarkLaws.{stored_same}

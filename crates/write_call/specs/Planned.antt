@@ -20,7 +20,8 @@ use Rattle.update_verdict.specs.declared.Verdict.{Verdict}
 use Rattle.update_verdict.specs.declared.Verdict.TheVariants.{Good, BadHeader, BadSum}
 use Rattle.store_blocks.specs.Blocks.{block_count}
 use Rattle.store_directory.specs.Scan.{store_ok, directory}
-use Rattle.store_directory.specs.DirectoryLaws.{Listing, listing}
+use Rattle.store_directory.specs.DirectoryLaws.{Listing}
+use Rattle.store_directory.proofs.DirectoryLaws.{listing}
 use Rattle.write_marks.specs.StoredUpdates.{StoredUpdates, Laid}
 use Rattle.write_marks.specs.Against.{both_marks}
 use Rattle.write_placement.specs.Choose.{choose}

@@ -1,4 +1,6 @@
 // The write call, sub-function 1: its checks in their order, and the bytes.
+#![tactic(auto)]
+
 ghost use Rattle.std.specs.Prelude.{◌≡◌, true, []};
 ghost use Rattle.update_header.specs.Fields.{total_size};
 ghost use Rattle.store_directory.specs.Scan.{directory};
@@ -22,7 +24,7 @@ use write_outcome::bytes;
 use write_plan::{Plan, marks};
 
 // What the verdict found of a good candidate, so that nothing of it is judged or read twice: T, its blocks, and its pairs.
-#[derive(Drop)]
+#[derive(Clone, Copy)]
 pub struct Sizes {
     pub total: u32,
     pub blocks: u32,

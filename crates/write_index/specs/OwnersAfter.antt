@@ -24,7 +24,7 @@ use Rattle.store_directory.specs.Scan.{slot_size, slot_at, size_at, first}
 use Rattle.store_directory.specs.SlotLaws.{slotted, slot_inside}
 use Rattle.store_directory.specs.Valid.{Owned}
 use Rattle.write_outcome.specs.After.{kept, after, After}
-use Rattle.write_outcome.specs.KeptLaws.{kept_parts, kept_update}
+use Rattle.write_outcome.proofs.KeptLaws.{kept_parts, kept_update}
 
 -- e is the set of emptied updates; the candidate, of t bytes, stands at the start
 module _ (old cand new : List ℕ) (t d n k start : ℕ) (e : ℕ → Bool)

@@ -1,4 +1,6 @@
 // The stored updates against a run of blocks. `k` is the number of blocks that the candidate takes, `s` a start block.
+#![tactic(auto)]
+
 ghost use Rattle.std.specs.Prelude.{◌≡◌, false, ◌&&◌, [], ◌+◌, ◌≤◌};
 ghost use Rattle.laws.specs.Below.{any_below};
 ghost use Rattle.laws.specs.Count.{count_below};
@@ -14,7 +16,7 @@ use store_blocks::MOST_BLOCKS;
 
 // The stored updates in the order of their starts: update i < count starts at a block, has a size in blocks, and two marks against the
 // candidate: it covers a processor that the candidate covers; it covers a listed processor that the candidate doesn't.
-#[derive(Drop)]
+#[derive(Clone, Copy)]
 pub struct Marked {
     pub starts: [u8; MOST_BLOCKS],
     pub sizes: [u8; MOST_BLOCKS],

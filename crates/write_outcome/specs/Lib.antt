@@ -3,9 +3,5 @@ pub mod Legal
 pub mod OutcomeBytes
 pub mod EmptiedBlocks
 pub mod After
-pub mod ByteLaws
-pub mod KeptLaws
-pub mod PlacedLaws
-pub mod AfterLaws
 pub mod Cleared
 pub mod EmptiedEntries

@@ -1,2 +1,4 @@
 // The outcome of a write: what it may empty, and the bytes that it leaves.
+#![tactic(auto)]
+
 pub mod bytes;

@@ -1,11 +1,11 @@
 -- One stored update against a run of blocks. The update has `size` blocks from `start` on; the candidate takes the k blocks from s on. `shares`
 -- says that the update covers a processor that the candidate covers, `needed` that it covers a listed one that the candidate doesn't.
---   touches    the run and the update have a block in common
---   isEmptied       the update is emptied: it shares, wherever it lies, or is touched
---   rules_out       it rules the run out: it would be emptied, and is needed
---   loses      it is touched, and does not share
---   within     all its blocks are blocks of the run
---   fills      it is emptied, and not all its blocks are the run's: what the run covers, the candidate and the FFh behind it overwrite
+--   touches      the run and the update have a block in common
+--   is_emptied   the update is emptied: it shares, wherever it lies, or is touched
+--   rules_out    it rules the run out: it would be emptied, and is needed
+--   loses        it is touched, and does not share
+--   within       all its blocks are blocks of the run
+--   fills        it is emptied, and not all its blocks are the run's: what the run covers, the candidate and the FFh behind it overwrite
 use Rattle.std.specs.Prelude.{ℕ, ◌+◌, Bool, not, ◌&&◌, ◌||◌, ltb, leb}
 
 abbrev pub touches : ℕ → ℕ → ℕ → ℕ → Bool

@@ -1,6 +1,8 @@
 // One stored update against a run of blocks. `k` is the number of blocks that the candidate takes, `s` a start block. The update has `size`
 // blocks from `start` on; `shares` says that it covers a processor that the candidate covers, `needed` that it covers a listed one that the
 // candidate doesn't.
+#![tactic(auto)]
+
 ghost use Rattle.std.specs.Prelude.{◌≡◌};
 ghost use Rattle.write_overlap.specs.Overlap.{touches, is_emptied, rules_out, loses, within, fills};
 

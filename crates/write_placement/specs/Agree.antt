@@ -5,7 +5,7 @@ use Rattle.std.specs.Prelude.{ℕ, suc, ◌-◌, ◌<◌, ◌≡◌}
 use Rattle.std.proofs.Common.{◌∙◌}
 use Rattle.laws.specs.Below.{any_below, any_cong}
 use Rattle.laws.specs.Count.{count_below, count_cong}
-use Rattle.laws.specs.Least.{least_cong}
+use Rattle.laws.proofs.Least.{least_cong}
 use Rattle.write_marks.specs.StoredUpdates.{StoredUpdates}
 use Rattle.write_marks.specs.Against.{rules_out, loses, ruled_out, lost, both_marks}
 use Rattle.write_placement.specs.Choose.{choose}

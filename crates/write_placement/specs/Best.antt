@@ -9,7 +9,8 @@ use Rattle.std.proofs.Common.{sym, ◌∙◌, true≢false, arith, leb-true, leb
 use Rattle.std.proofs.Math.Bool.{true}
 use Rattle.laws.specs.Below.{any_stop}
 use Rattle.laws.specs.Count.{count_below}
-use Rattle.laws.specs.Least.{Pick, nowhere, at, IsLeast, Promised, least_promised}
+use Rattle.laws.specs.Least.{Pick, nowhere, at, IsLeast, Promised}
+use Rattle.laws.proofs.Least.{least_promised}
 use Rattle.write_marks.specs.StoredUpdates.{StoredUpdates, Laid}
 use Rattle.write_placement.specs.LegalByNumber.{LegalByNumber, emptied_count_by_number}
 use Rattle.write_marks.specs.Against.{emptied_by_number, rules_out, ruled_out, lost}

@@ -14,7 +14,8 @@ use Rattle.write_placement.specs.declared.Choice.TheVariants.{At, Nowhere}
 use Rattle.write_marks.specs.StoredUpdates.{StoredUpdates}
 use Rattle.write_marks.specs.Against.{loses, ruled_out, lost}
 use Rattle.write_marks.specs.StoredMarks.{stored_of, marks_of}
-use Rattle.write_marks.specs.Capped.{capped, capped_less, capped_more, lost_same}
+use Rattle.write_marks.specs.Capped.{capped}
+use Rattle.write_marks.proofs.Capped.{capped_less, capped_more, lost_same}
 use Rattle.write_placement.specs.Choices.{choice_of, pick_of, choice_pick}
 
 abbrev pub limit_of : Choice → ℕ

@@ -1,4 +1,6 @@
 // The choice of a run of blocks for a new update. `k` is the number of blocks that it takes, `s` a start block.
+#![tactic(auto)]
+
 ghost use Rattle.std.specs.Prelude.{◌≡◌, false, ◌+◌, ◌≤◌};
 ghost use Rattle.write_marks.specs.Against.{ruled_out, lost};
 ghost use Rattle.write_placement.specs.Choose.{choose};
@@ -8,7 +10,7 @@ ghost use Rattle.write_placement.specs.Tries.{limit_of, turn};
 
 use store_blocks::MOST_BLOCKS;
 
-#[derive(Drop)]
+#[derive(Clone, Copy)]
 pub enum Choice {
     // the start of the run, and how many updates that do not share it touches
     At { start: u32, touched: u32 },

@@ -1,5 +1,5 @@
 -- The marks as the code keeps them, and how they stand for those of the definitions.
---   shares_is, needed_is        a turn of the loop that marks; marks-made: its end
+--   shares_is, needed_is        a turn of the loop that marks; marks_made: its end
 --   outdate_older, outdate_apart    a turn of the scan for one that shares and isn't older: past an older one, past one that doesn't share
 --   outdate_stop, outdate_done      its way out, and its end
 --   stored_same                 right marks agree with the definitions' table
@@ -21,7 +21,8 @@ use Rattle.store_directory.specs.declared.Directory.{Directory}
 use Rattle.write_placement.specs.Agree.{Agree}
 use Rattle.write_marks.specs.StoredMarks.{stored_of}
 use Rattle.write_marks.specs.declared.Marked.{Marked}
-use Rattle.processor_list.specs.Covered.{Covered, needed_by_marks, needed_by_is}
+use Rattle.processor_list.specs.Covered.{Covered, needed_by_marks}
+use Rattle.processor_list.proofs.CoveredLaws.{needed_by_is}
 use Rattle.write_plan.specs.RightMarks.{Marks}
 use Rattle.write_plan.specs.CandidateMarks.{shares_entry, needed_entry, stored_updates, outdates, outdated}
 

@@ -10,7 +10,8 @@ use Rattle.laws.specs.Below.{any_below}
 use Rattle.laws.specs.Unless.{unless}
 use Rattle.write_placement.specs.Agree.{Agree, shared_same}
 use Rattle.laws.specs.Count.{count_below, count_most}
-use Rattle.laws.specs.Least.{Pick, nowhere, at, IsLeast, Promised, least_promised}
+use Rattle.laws.specs.Least.{Pick, nowhere, at, IsLeast, Promised}
+use Rattle.laws.proofs.Least.{least_promised}
 use Rattle.write_marks.specs.StoredUpdates.{StoredUpdates}
 use Rattle.write_marks.specs.Against.{ruled_out, loses, lost, both_marks}
 use Rattle.write_placement.specs.Choose.{choose}

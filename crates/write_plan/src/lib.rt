@@ -1,4 +1,6 @@
 // Checks 6 to 8 of the write, and the run that they choose: check 6 and the marks, then checks 7 and 8 by the marks. No byte changes.
+#![tactic(auto)]
+
 pub mod marks;
 
 ghost use Rattle.std.specs.Prelude.{◌≡◌, ◌/◌, ◌≤◌, length};
@@ -12,7 +14,7 @@ use store_blocks::MOST_BLOCKS;
 use write_placement::Choice;
 
 // What checks 1 to 8 find.
-#[derive(Drop)]
+#[derive(Clone, Copy)]
 pub enum Plan {
     // the start block of the run, and how many stored updates are to be emptied
     Run { start: u32, emptied: u32 },

@@ -3,7 +3,7 @@ use mathlib.Core.Path.{refl, ap, ◌∙◌}
 use native.Mathlib.Omega.{arith}
 use Rattle.call_answers.specs.declared.answer.Reply.{Reply}
 use Rattle.call_dispatch.specs.Call.{unknown}
-use Rattle.call_dispatch.specs.CallLaws.{other_function, above_sub}
+use Rattle.call_dispatch.proofs.CallLaws.{other_function, above_sub}
 use Rattle.board_call_words.specs.Words.{ax_of, call_words}
 use Rattle.board.proofs.update_store_call.Statement.{statement}
 use Rattle.board.proofs.update_store_call.Tie as tie

@@ -1,6 +1,6 @@
 -- `board::update_store_load_indexed` meets its contract: the choice through the lent index, laid out.
 use mathlib.Core.Path.{ap, ◌∙◌}
-use Rattle.load_indexed.specs.IndexedLoadLaws.{indexed_inside}
+use Rattle.load_indexed.proofs.IndexedLoadLaws.{indexed_inside}
 use Rattle.board_load_words.specs.LoadWords.{load_ax, load_words}
 use Rattle.board.proofs.update_store_load_indexed.Statement.{statement}
 use Rattle.board.proofs.update_store_load_indexed.Tie as tie

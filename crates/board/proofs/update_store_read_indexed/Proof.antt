@@ -3,11 +3,11 @@ use mathlib.Core.Path.{ap, ◌∙◌}
 use mathlib.Core.Bool.{false}
 use lib.ListN.{length}
 use Rattle.call_reads.specs.Read.{answered, copied}
-use Rattle.call_reads.specs.ReadLaws.{copied_long}
+use Rattle.call_reads.proofs.ReadLaws.{copied_long}
 use Rattle.call_reads.specs.declared.read.ReadPlan.{ReadPlan}
 use Rattle.call_indexed.specs.IndexedRead.{indexed_answer, indexed_bytes}
-use Rattle.call_indexed.specs.IndexedReadLaws.{indexed_copyable}
-use Rattle.call_indexed.specs.IndexedRefusals.{indexed_plan_coded}
+use Rattle.call_indexed.proofs.IndexedReadLaws.{indexed_copyable}
+use Rattle.call_indexed.proofs.IndexedRefusals.{indexed_plan_coded}
 use Rattle.board_call_words.specs.Words.{ax_of, answer_words}
 use Rattle.board.proofs.update_store_read_indexed.Statement.{statement}
 use Rattle.board.proofs.update_store_read_indexed.Tie as tie

@@ -3,11 +3,11 @@ use borrow.Author.Tests.{eq-eqb, ne_eqb}
 use Rattle.board_row.proofs.carry.Statement.{statement}
 use Rattle.board_row.proofs.carry.Tie as tie
 
-returns : tie.Need-returns
-returns c = rw (eq-eqb _ _ c.if1.true)
+returns-then-ah-eq0 : tie.Need-returns-then-ah-eq0
+returns-then-ah-eq0 c = rw (eq-eqb _ _ c.if-ah-eq0.true)
 
-returns-2 : tie.Need-returns-2
-returns-2 c = rw (ne_eqb _ _ c.if1.false)
+returns-else-ah-eq0 : tie.Need-returns-else-ah-eq0
+returns-else-ah-eq0 c = rw (ne_eqb _ _ c.if-ah-eq0.false)
 
 pub carry_spec : {M : Type 1} → statement M
-carry_spec = tie.close (tie.spec returns returns-2)
+carry_spec = tie.close (tie.spec returns-then-ah-eq0 returns-else-ah-eq0)

@@ -6,7 +6,7 @@ use Rattle.board_row.proofs.put.Tie as tie
 
 returns : tie.Need-returns
 unfolding row_of
-returns c = rw c.before.carry.ensures
+returns c = rw c.before.carry-c.ensures
 
 pub put_spec : {M : Type 1} → statement M
 put_spec = tie.close (tie.spec (search rules) returns)

@@ -4,8 +4,8 @@ use lib.ListN.{get_or-eq_default}
 use Rattle.bytes_dwords.proofs.byte_or_zero.Statement.{statement}
 use Rattle.bytes_dwords.proofs.byte_or_zero.Tie as tie
 
-returns-2 : tie.Need-returns-2
-returns-2 c = (sym (get_or-eq_default c.before.before.args.s.now 0 c.if1.false), omega arith)
+returns-else-at-s : tie.Need-returns-else-at-s
+returns-else-at-s c = (sym (get_or-eq_default c.before.before.args.s.now 0 c.if-at-s.false), omega arith)
 
 pub byte_or_zero_spec : {M : Type 1} → statement M
-byte_or_zero_spec = tie.close (tie.spec (λ c. omega arith) (λ c κs. tt) (λ c. omega arith) returns-2)
+byte_or_zero_spec = tie.close (tie.spec (λ c. omega arith) (λ c κs. tt) (λ c. omega arith) returns-else-at-s)

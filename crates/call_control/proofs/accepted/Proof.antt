@@ -10,4 +10,4 @@ accepted_spec =
     tie.close
     (tie.spec
     (search rules)
-    (λ c. rw c.status-of.ensures))
+    (λ c. rw c.status_of.ensures))

@@ -8,5 +8,5 @@ unfolding status_of
 status_of_spec =
     tie.close
     (tie.spec
-    (λ c. rw c.if1.true)
-    (λ c. rw c.if1.false))
+    (λ c. rw c.if-loading.true)
+    (λ c. rw c.if-loading.false))

@@ -1,7 +1,7 @@
 -- `call_dispatch::call` meets its contract: the tests of function and sub-function, then that of the called function.
 use borrow.Author.Rules.{rules}
-use Rattle.call_dispatch.specs.Demand1Laws.{demanded}
-use Rattle.call_dispatch.specs.CallLaws.{other_function, presence_called, write_called, control_called, read_called, other_sub}
+use Rattle.call_dispatch.proofs.Demand1Laws.{demanded}
+use Rattle.call_dispatch.proofs.CallLaws.{other_function, presence_called, write_called, control_called, read_called, other_sub}
 use Rattle.call_dispatch.proofs.call.Statement.{statement}
 use Rattle.call_dispatch.proofs.call.Tie as tie
 

@@ -5,8 +5,8 @@ use Prim.Native.Nat.{◌≤◌, ◌-◌}
 use native.Mathlib.Omega.{arith}
 use borrow.Author.Rules.{rules}
 use Rattle.laws.specs.Below.{any_below}
-use Rattle.store_directory.specs.StoreLaws.{directory_few}
-use Rattle.store_directory.specs.PairedLaws.{directory_pairs}
+use Rattle.store_directory.proofs.StoreLaws.{directory_few}
+use Rattle.store_directory.proofs.PairedLaws.{directory_pairs}
 use Rattle.load_choice.specs.LoadLaws.{covers_entry, find_more, finding}
 use Rattle.load_choice.proofs.find.Statement.{statement}
 use Rattle.load_choice.proofs.find.Tie as tie

@@ -1,8 +1,8 @@
 -- `load_indexed::choose_by` meets its contract: the order of the answers.
 use mathlib.Core.Path.{sym, ◌∙◌}
-use Rattle.store_directory.specs.StoreLaws.{directory_good}
-use Rattle.store_index.specs.OwnIndexLaws.{own_directory}
-use Rattle.load_indexed.specs.IndexedLoadLaws.{indexed_bad, indexed_foreign, indexed_platform, indexed_off, indexed_on}
+use Rattle.store_directory.proofs.StoreLaws.{directory_good}
+use Rattle.store_index.proofs.OwnIndexLaws.{own_directory}
+use Rattle.load_indexed.proofs.IndexedLoadLaws.{indexed_bad, indexed_foreign, indexed_platform, indexed_off, indexed_on}
 use Rattle.load_indexed.proofs.choose_by.Statement.{statement}
 use Rattle.load_indexed.proofs.choose_by.Tie as tie
 

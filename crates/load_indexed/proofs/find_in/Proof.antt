@@ -7,7 +7,7 @@ use lib.ListN.{length}
 use Rattle.laws.specs.Below.{any_below, any_none}
 use Rattle.store_index.specs.IndexColumns.{index_in}
 use Rattle.load_indexed.specs.IndexedLoad.{holds_in}
-use Rattle.load_indexed.specs.IndexedLoadLaws.{blocks_most, first_pairs, scan_other, scan_next, scan_found, scan_nothing}
+use Rattle.load_indexed.proofs.IndexedLoadLaws.{blocks_most, first_pairs, scan_other, scan_next, scan_found, scan_nothing}
 use Rattle.load_indexed.proofs.find_in.Statement.{statement}
 use Rattle.load_indexed.proofs.find_in.Tie as tie
 

@@ -9,21 +9,21 @@ use Rattle.processor_list.specs.Processors.{list_of, covers_listed}
 use Rattle.processor_list.proofs.covered.Statement.{statement}
 use Rattle.processor_list.proofs.covered.Tie as tie
 
-abbrev invariant-loop : tie.invariant-loop
-invariant-loop signatures platforms candidate pairs marks₀ i₀ marks i = (i ≤ length signatures) × Filled false 8 (covers_listed (list_of signatures platforms) candidate) i marks
+abbrev invariant-loop-i : tie.invariant-loop-i
+invariant-loop-i signatures platforms candidate pairs marks₀ i₀ marks i = (i ≤ length signatures) × Filled false 8 (covers_listed (list_of signatures platforms) candidate) i marks
 
-abbrev decreases-loop : tie.decreases-loop
-decreases-loop signatures platforms candidate pairs marks₀ i₀ marks i = length signatures - i
+abbrev decreases-loop-i : tie.decreases-loop-i
+decreases-loop-i signatures platforms candidate pairs marks₀ i₀ marks i = length signatures - i
 
-loop_again : tie.Need-loop-preserved invariant-loop decreases-loop
-loop_again c = (omega arith, filled_more _ _ _ _ _ _ c.before.before.loop.invariant.1 (omega arith) c.covers-listed.ensures)
+loop_again : tie.Need-loop-i-preserved invariant-loop-i decreases-loop-i
+loop_again c = (omega arith, filled_more _ _ _ _ _ _ c.before.before.loop-i.invariant.1 (omega arith) c.covers_listed.ensures)
 
 pub covered_spec : {M : Type 1} → statement M
 covered_spec =
     tie.close
     (tie.spec
-    invariant-loop
-    decreases-loop
+    invariant-loop-i
+    decreases-loop-i
     (λ c. search (rules, filling))
     (λ c κs. search rules)
     (λ c. search rules)

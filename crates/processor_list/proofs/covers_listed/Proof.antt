@@ -14,4 +14,4 @@ covers_listed_spec =
     (λ c. c.before.before.before.before.before.requires.1)
     (search rules)
     (λ c κs. c.before.before.before.before.before.before.requires.2)
-    (λ c. rw c.before.wide.ensures.0 at c.covers-with.ensures))
+    (λ c. rw c.before.wide.ensures.0 at c.covers_with.ensures))

@@ -9,19 +9,19 @@ use Rattle.laws.specs.Arrays.{mark_at}
 use Rattle.processor_list.proofs.covers_one.Statement.{statement}
 use Rattle.processor_list.proofs.covers_one.Tie as tie
 
-abbrev invariant-loop : tie.invariant-loop
-invariant-loop n marks i₀ i = (i ≤ n) × (any_below i (mark_at marks) ≡ false)
+abbrev invariant-loop-i : tie.invariant-loop-i
+invariant-loop-i n marks i₀ i = (i ≤ n) × (any_below i (mark_at marks) ≡ false)
 
-abbrev decreases-loop : tie.decreases-loop
-decreases-loop n marks i₀ i = n - i
+abbrev decreases-loop-i : tie.decreases-loop-i
+decreases-loop-i n marks i₀ i = n - i
 
 pub covers_one_spec : {M : Type 1} → statement M
 unfolding mark_at
 covers_one_spec =
     tie.close
     (tie.spec
-    invariant-loop
-    decreases-loop
+    invariant-loop-i
+    decreases-loop-i
     (λ c. search (rules, scan))
     (λ c. search (rules, scan))
     (λ c. search (rules, scan))

@@ -12,19 +12,19 @@ use Rattle.processor_list.specs.Covered.{needed_by_marks}
 use Rattle.processor_list.proofs.is_needed.Statement.{statement}
 use Rattle.processor_list.proofs.is_needed.Tie as tie
 
-abbrev invariant-loop : tie.invariant-loop
-invariant-loop signatures platforms u pairs marks i₀ i = (i ≤ length signatures) × (any_below i (needed_by_marks (list_of signatures platforms) marks u) ≡ false)
+abbrev invariant-loop-i : tie.invariant-loop-i
+invariant-loop-i signatures platforms u pairs marks i₀ i = (i ≤ length signatures) × (any_below i (needed_by_marks (list_of signatures platforms) marks u) ≡ false)
 
-abbrev decreases-loop : tie.decreases-loop
-decreases-loop signatures platforms u pairs marks i₀ i = length signatures - i
+abbrev decreases-loop-i : tie.decreases-loop-i
+decreases-loop-i signatures platforms u pairs marks i₀ i = length signatures - i
 
 pub is_needed_spec : {M : Type 1} → statement M
 unfolding needed_by_marks mark_at
 is_needed_spec =
     tie.close
     (tie.spec
-    invariant-loop
-    decreases-loop
+    invariant-loop-i
+    decreases-loop-i
     (λ c. search (rules, scan))
     (λ c. search rules)
     (λ c κs. search rules)

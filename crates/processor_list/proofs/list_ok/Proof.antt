@@ -11,18 +11,18 @@ use Rattle.processor_list.specs.ListLaws.{list_tests}
 use Rattle.processor_list.proofs.list_ok.Statement.{statement}
 use Rattle.processor_list.proofs.list_ok.Tie as tie
 
-abbrev invariant-loop : tie.invariant-loop
-invariant-loop signatures platforms i₀ i = (i ≤ length platforms) × (all_below i (platform_ok platforms) ≡ true)
+abbrev invariant-loop-i : tie.invariant-loop-i
+invariant-loop-i signatures platforms i₀ i = (i ≤ length platforms) × (all_below i (platform_ok platforms) ≡ true)
 
-abbrev decreases-loop : tie.decreases-loop
-decreases-loop signatures platforms i₀ i = length platforms - i
+abbrev decreases-loop-i : tie.decreases-loop-i
+decreases-loop-i signatures platforms i₀ i = length platforms - i
 
 pub list_ok_spec : {M : Type 1} → statement M
 list_ok_spec =
     tie.close
     (tie.spec
-    invariant-loop
-    decreases-loop
+    invariant-loop-i
+    decreases-loop-i
     (λ c. search list_tests)
     (λ c. search list_tests)
     (λ c. search list_tests)

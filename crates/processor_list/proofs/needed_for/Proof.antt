@@ -1,5 +1,5 @@
 -- `processor_list::needed_for` meets its contract: the update covers it, and the mark is not set.
-use Rattle.processor_list.specs.Covered.{unmarked}
+use Rattle.processor_list.proofs.CoveredLaws.{unmarked}
 use Rattle.processor_list.proofs.needed_for.Statement.{statement}
 use Rattle.processor_list.proofs.needed_for.Tie as tie
 

@@ -1,7 +1,7 @@
 -- `report_catalogue::catalogue` meets its contract: the text, given.
 use native.Mathlib.Omega.{arith}
 use Rattle.report_text.specs.TextLaws.{made_text}
-use Rattle.report_catalogue.specs.CatalogueLaws.{text_short}
+use Rattle.report_catalogue.proofs.CatalogueLaws.{text_short}
 use Rattle.report_catalogue.proofs.catalogue.Statement.{statement}
 use Rattle.report_catalogue.proofs.catalogue.Tie as tie
 

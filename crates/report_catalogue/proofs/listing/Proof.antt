@@ -3,13 +3,13 @@ use mathlib.Core.Path.{◌≡◌}
 use Prim.Native.Nat.{◌+◌, ◌*◌, ◌-◌, ◌≤◌}
 use native.Mathlib.Omega.{arith}
 use Rattle.store_blocks.specs.Blocks.{most_blocks}
-use Rattle.store_directory.specs.StoreLaws.{directory_few}
+use Rattle.store_directory.proofs.StoreLaws.{directory_few}
 use Rattle.report_text.specs.Texts.{added}
 use Rattle.report_text.specs.TextLaws.{added_long, none_long}
 use Rattle.report_catalogue.specs.Walk.{longest_line, entries_to, used_to}
-use Rattle.report_catalogue.specs.WalkLaws.{used_none, used_more, used_inside}
-use Rattle.report_catalogue.specs.LineLaws.{entry_small}
-use Rattle.report_catalogue.specs.CatalogueLaws.{count_small, head_long, walk_none, walk_more, text_good}
+use Rattle.report_catalogue.proofs.WalkLaws.{used_none, used_more, used_inside}
+use Rattle.report_catalogue.proofs.LineLaws.{entry_small}
+use Rattle.report_catalogue.proofs.CatalogueLaws.{count_small, head_long, walk_none, walk_more, text_good}
 use Rattle.report_catalogue.proofs.listing.Statement.{statement}
 use Rattle.report_catalogue.proofs.listing.Tie as tie
 

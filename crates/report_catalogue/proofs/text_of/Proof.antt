@@ -1,9 +1,9 @@
 -- `report_catalogue::text_of` meets its contract: a good store and a bad one.
 use native.Mathlib.Omega.{arith}
-use Rattle.store_directory.specs.StoreLaws.{directory_good}
-use Rattle.store_directory.specs.ValidLaws.{blocks_few}
+use Rattle.store_directory.proofs.StoreLaws.{directory_good}
+use Rattle.store_directory.proofs.ValidLaws.{blocks_few}
 use Rattle.report_text.specs.TextLaws.{added_long, none_long}
-use Rattle.report_catalogue.specs.CatalogueLaws.{count_is, text_bad}
+use Rattle.report_catalogue.proofs.CatalogueLaws.{count_is, text_bad}
 use Rattle.report_catalogue.proofs.text_of.Statement.{statement}
 use Rattle.report_catalogue.proofs.text_of.Tie as tie
 

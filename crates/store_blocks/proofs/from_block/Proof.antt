@@ -9,13 +9,13 @@ use borrow.Author.Rules.{rules}
 use Rattle.store_blocks.proofs.from_block.Statement.{statement}
 use Rattle.store_blocks.proofs.from_block.Tie as tie
 
-returns : tie.Need-returns
-returns c =
+returns-then-at-s : tie.Need-returns-then-at-s
+returns-then-at-s c =
     let a = c.before.before.args in
     take_all (length a.s.now - a.b * 2048) (drop (a.b * 2048) a.s.now) (omega (arith, length-drop (a.b * 2048) a.s.now))
 
-returns-2 : tie.Need-returns-2
-returns-2 c = let a = c.before.before.args in sym (drop_of_length-le a.s.now {i = a.b * 2048} (omega arith))
+returns-else-at-s : tie.Need-returns-else-at-s
+returns-else-at-s c = let a = c.before.args in sym (drop_of_length-le a.s.now {i = a.b * 2048} (omega arith))
 
 pub from_block_spec : {M : Type 1} → statement M
 from_block_spec =
@@ -26,5 +26,5 @@ from_block_spec =
     (search rules)
     (search rules)
     (search rules)
-    returns
-    returns-2)
+    returns-then-at-s
+    returns-else-at-s)

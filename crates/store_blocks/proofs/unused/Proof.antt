@@ -6,13 +6,13 @@ use Rattle.store_blocks.specs.FilledLaws.{unused_no}
 use Rattle.store_blocks.proofs.unused.Statement.{statement}
 use Rattle.store_blocks.proofs.unused.Tie as tie
 
-returns : tie.Need-returns
+returns-then-is_ff : tie.Need-returns-then-is_ff
 unfolding unused
-returns c = search cases
+returns-then-is_ff c = search cases
 
-returns-3 : tie.Need-returns-3
+returns-else-s-ge-BLOCK : tie.Need-returns-else-s-ge-BLOCK
 unfolding unused
-returns-3 c = search cases
+returns-else-s-ge-BLOCK c = search cases
 
 pub unused_spec : {M : Type 1} → statement M
 unused_spec =
@@ -20,6 +20,6 @@ unused_spec =
     (tie.spec
     (search rules)
     (search rules)
-    returns
+    returns-then-is_ff
     (λ c. search unused_no)
-    returns-3)
+    returns-else-s-ge-BLOCK)

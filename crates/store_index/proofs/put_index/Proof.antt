@@ -4,8 +4,9 @@ use Prim.Native.Nat.{◌≤◌, ◌-◌}
 use native.Mathlib.Omega.{arith}
 use borrow.Author.Rules.{rules}
 use Rattle.update_header.specs.Fields.{revision}
-use Rattle.store_directory.specs.StoreLaws.{directory_ok, directory_few}
-use Rattle.store_index.specs.IndexLines.{LinesTo, lines_none, lines_valid, lines_inside, lines_more, lines_done}
+use Rattle.store_directory.proofs.StoreLaws.{directory_ok, directory_few}
+use Rattle.store_index.specs.IndexLines.{LinesTo}
+use Rattle.store_index.proofs.IndexLines.{lines_none, lines_valid, lines_inside, lines_more, lines_done}
 use Rattle.store_index.proofs.put_index.Statement.{statement}
 use Rattle.store_index.proofs.put_index.Tie as tie
 

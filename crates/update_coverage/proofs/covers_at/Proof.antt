@@ -11,4 +11,4 @@ covers_at_spec =
     (λ c κs. c.before.requires)
     (λ c κs. c.before.before.requires)
     (λ c κs. tt)
-    (λ c. rw (c.pair-covers.ensures, c.before.before.signature_at.ensures, c.before.platforms-at.ensures)))
+    (λ c. rw (c.pair_covers.ensures, c.before.before.signature_at.ensures, c.before.platforms_at.ensures)))

@@ -7,6 +7,6 @@ pairs_of_spec =
     tie.close
     (tie.spec
     (λ c κs. tt)
-    (λ c κs. c.data_size.ensures)
-    (λ c κs. (c.before.data_size.ensures, c.pair-count.ensures))
-    (λ c. c.pairs-with.ensures))
+    (λ c κs. c.data_size-d.ensures)
+    (λ c κs. (c.before.data_size-d.ensures, c.pair_count.ensures))
+    (λ c. c.pairs_with.ensures))

@@ -1,7 +1,7 @@
 -- `update_coverage::platforms_at` meets its contract: each pair lies inside.
 use native.Mathlib.Omega.{arith}
 use Rattle.update_coverage.specs.Covers.{platforms_at, flags_at}
-use Rattle.update_coverage.specs.PairLaws.{data_is, pairing}
+use Rattle.update_coverage.proofs.PairLaws.{data_is, pairing}
 use Rattle.update_coverage.proofs.platforms_at.Statement.{statement}
 use Rattle.update_coverage.proofs.platforms_at.Tie as tie
 
@@ -13,4 +13,4 @@ platforms_at_spec =
     (λ c κs. search pairing)
     (λ c κs. search pairing)
     (λ c. omega arith)
-    (λ c. rw (c.dword-inside.ensures, c.before.flags-offset.ensures, data_is _ _ c.before.before.before.requires.0)))
+    (λ c. rw (c.dword_inside.ensures, c.before.flags_offset.ensures, data_is _ _ c.before.before.before.requires.0)))

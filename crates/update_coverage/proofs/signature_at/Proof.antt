@@ -1,6 +1,6 @@
 -- `update_coverage::signature_at` meets its contract: each pair lies inside.
 use Rattle.update_coverage.specs.Covers.{signature_at}
-use Rattle.update_coverage.specs.PairLaws.{data_is, pairing}
+use Rattle.update_coverage.proofs.PairLaws.{data_is, pairing}
 use Rattle.update_coverage.proofs.signature_at.Statement.{statement}
 use Rattle.update_coverage.proofs.signature_at.Tie as tie
 
@@ -11,4 +11,4 @@ signature_at_spec =
     (tie.spec
     (λ c κs. search pairing)
     (λ c κs. search pairing)
-    (λ c. rw (c.dword-inside.ensures, c.before.signature-offset.ensures, data_is _ _ c.before.before.before.requires.0)))
+    (λ c. rw (c.dword_inside.ensures, c.before.signature_offset.ensures, data_is _ _ c.before.before.before.requires.0)))

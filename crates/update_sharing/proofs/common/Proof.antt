@@ -1,7 +1,7 @@
 -- `update_sharing::common` meets its contract: a bit that both have.
 use mathlib.Core.Path.{sym}
 use native.Mathlib.Omega.{arith}
-use Rattle.update_sharing.specs.ShareLaws.{common_and}
+use Rattle.update_sharing.proofs.ShareLaws.{common_and}
 use Rattle.update_sharing.proofs.common.Statement.{statement}
 use Rattle.update_sharing.proofs.common.Tie as tie
 

@@ -1,5 +1,5 @@
 -- `update_sharing::headers_apart` meets its contract: two counts, then one pair with the other.
-use Rattle.update_sharing.specs.ShareLaws.{apartness}
+use Rattle.update_sharing.proofs.ShareLaws.{apartness}
 use Rattle.update_sharing.proofs.headers_apart.Statement.{statement}
 use Rattle.update_sharing.proofs.headers_apart.Tie as tie
 

@@ -10,4 +10,4 @@ shares_at_spec =
     (λ c κs. (c.before.requires.0, omega arith))
     (λ c κs. (c.before.before.requires.0, omega arith))
     (λ c κs. tt)
-    (λ c. rw (c.pair-shares.ensures, c.before.before.signature_at.ensures, c.before.platforms-at.ensures)))
+    (λ c. rw (c.pair_shares.ensures, c.before.before.signature_at.ensures, c.before.platforms_at.ensures)))

@@ -1,12 +1,12 @@
 -- `update_sharing::shares_with` meets its contract: the readings of two updates with one pair each, or all pairs.
-use Rattle.update_sharing.specs.ShareLaws.{one_pair}
+use Rattle.update_sharing.proofs.ShareLaws.{one_pair}
 use Rattle.update_sharing.proofs.shares_with.Statement.{statement}
 use Rattle.update_sharing.proofs.shares_with.Tie as tie
 
-returns : tie.Need-returns
-returns c =
+returns-then-both_alone : tie.Need-returns-then-both_alone
+returns-then-both_alone c =
     let p = c.before.before.before.before.before.requires in
-    one_pair _ _ _ _ p.0 p.1 _ _ c.before.before.both-alone.ensures c.before.if1.true c.pair-shares.ensures
+    one_pair _ _ _ _ p.0 p.1 _ _ c.before.before.both_alone.ensures c.before.if-both_alone.true c.pair_shares.ensures
 
 pub shares_with_spec : {M : Type 1} → statement M
 shares_with_spec =
@@ -15,5 +15,5 @@ shares_with_spec =
     (λ c κs. tt)
     (λ c κs. tt)
     (λ c κs. c.before.before.before.before.requires)
-    returns
-    (λ c. c.pairs-share.ensures))
+    returns-then-both_alone
+    (λ c. c.pairs_share.ensures))

@@ -1,6 +1,6 @@
 -- `update_sizes::sizes_ok` meets its contract: a return at each test of the rule.
 use native.Mathlib.Omega.{arith}
-use Rattle.update_sizes.specs.SizeLaws.{odd_data, too_long, no_entries, too_many, tabled, plain}
+use Rattle.update_sizes.proofs.SizeLaws.{odd_data, too_long, no_entries, too_many, tabled, plain}
 use Rattle.update_sizes.proofs.sizes_ok.Statement.{statement}
 use Rattle.update_sizes.proofs.sizes_ok.Tie as tie
 

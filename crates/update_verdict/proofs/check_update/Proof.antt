@@ -6,10 +6,10 @@ use Rattle.update_verdict.specs.VerdictLaws.{good_is}
 use Rattle.update_verdict.proofs.check_update.Statement.{statement}
 use Rattle.update_verdict.proofs.check_update.Tie as tie
 
-sums-ok-requires : tie.Need-sums-ok-requires
-sums-ok-requires c κs =
+sums_ok-requires : tie.Need-sums_ok-requires
+sums_ok-requires c κs =
     let b = c.before.before.before in
-    (search inside_of, b.before.before.data_size.ensures, b.before.total_size.ensures, search entry_count_is)
+    (search inside_of, b.before.before.data_size-d.ensures, b.before.total_size-t.ensures, search entry_count_is)
 
 pub check_update_spec : {M : Type 1} → statement M
 unfolding verdict
@@ -19,10 +19,10 @@ check_update_spec =
     (λ c κs. tt)
     (λ c κs. tt)
     (λ c κs. tt)
-    (λ c κs. c.before.data_size.ensures)
-    (λ c κs. (c.before.before.data_size.ensures, c.before.total_size.ensures, c.table-count.ensures))
+    (λ c κs. c.before.data_size-d.ensures)
+    (λ c κs. (c.before.before.data_size-d.ensures, c.before.total_size-t.ensures, c.table_count-n.ensures))
     (λ c κs. tt)
-    sums-ok-requires
+    sums_ok-requires
     (λ c κs. tt)
     (λ c. search (checks, entry_count_is, good_is))
     (λ c. search checks)

@@ -1,7 +1,7 @@
 -- `write_call::finish` meets its contract: check 9, then the bytes, by cases of the plan.
 use native.Mathlib.Omega.{arith}
-use Rattle.write_call.specs.Storing.{storing}
-use Rattle.write_call.specs.WriteCases.{answers, left}
+use Rattle.write_call.proofs.Storing.{storing}
+use Rattle.write_call.proofs.WriteCases.{answers, left}
 use Rattle.write_call.proofs.finish.Statement.{statement}
 use Rattle.write_call.proofs.finish.Tie as tie
 

@@ -2,8 +2,8 @@
 use mathlib.Core.Path.{ap, ◌∙◌}
 use native.Mathlib.Omega.{arith}
 use Rattle.update_sizes.specs.Sizes.{blocks_of}
-use Rattle.write_call.specs.Storing.{entries_for, entries_fit, run_inside, whole_lent, stored_bytes}
-use Rattle.write_call.specs.AnsweredBlocks.{blocks_are}
+use Rattle.write_call.proofs.Storing.{entries_for, entries_fit, run_inside, whole_lent, stored_bytes}
+use Rattle.write_call.proofs.AnsweredBlocks.{blocks_are}
 use Rattle.write_call.proofs.store_candidate.Statement.{statement}
 use Rattle.write_call.proofs.store_candidate.Tie as tie
 

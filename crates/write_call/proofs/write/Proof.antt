@@ -4,7 +4,7 @@ use native.Mathlib.Omega.{arith}
 use Rattle.processor_list.specs.ListLaws.{list_right}
 use Rattle.write_call.specs.CandidateSizeLaws.{entries_few, good_data, good_count, good_sizes}
 use Rattle.write_call.specs.PlanCases.{plans}
-use Rattle.write_call.specs.WriteCases.{meant, meant_refused}
+use Rattle.write_call.proofs.WriteCases.{meant, meant_refused}
 use Rattle.write_call.proofs.write.Statement.{statement}
 use Rattle.write_call.proofs.write.Tie as tie
 

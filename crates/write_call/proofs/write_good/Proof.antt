@@ -1,11 +1,11 @@
 -- `write_call::write_good` meets its contract: checks 5 and 6, then the marks, checks 7 to 9 and the bytes.
 use native.Mathlib.Omega.{arith}
 use Rattle.processor_list.specs.ListLaws.{list_few, list_same}
-use Rattle.store_directory.specs.ValidLaws.{blocks_few}
+use Rattle.store_directory.proofs.ValidLaws.{blocks_few}
 use Rattle.write_call.specs.CandidateSizeLaws.{total_is, pairs_are}
 use Rattle.write_call.specs.PlanCases.{good_absent, good_outdated, good_marked}
-use Rattle.write_call.specs.Storing.{planned_storable}
-use Rattle.write_call.specs.WriteCases.{planned_same, absent_same}
+use Rattle.write_call.proofs.Storing.{planned_storable}
+use Rattle.write_call.proofs.WriteCases.{planned_same, absent_same}
 use Rattle.write_call.proofs.write_good.Statement.{statement}
 use Rattle.write_call.proofs.write_good.Tie as tie
 

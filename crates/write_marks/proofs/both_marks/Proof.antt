@@ -14,35 +14,35 @@ use Rattle.laws.specs.Arrays.{mark_at}
 use Rattle.write_marks.proofs.both_marks.Statement.{statement}
 use Rattle.write_marks.proofs.both_marks.Tie as tie
 
-abbrev invariant-loop : tie.invariant-loop
-invariant-loop shares needed count i₀ i = (i ≤ count) × (any_below i (both_at shares needed) ≡ false)
+abbrev invariant-loop-i : tie.invariant-loop-i
+invariant-loop-i shares needed count i₀ i = (i ≤ count) × (any_below i (both_at shares needed) ≡ false)
 
-abbrev decreases-loop : tie.decreases-loop
-decreases-loop shares needed count i₀ i = count - i
+abbrev decreases-loop-i : tie.decreases-loop-i
+decreases-loop-i shares needed count i₀ i = count - i
 
 -- update i stands within the arrays
-below : (c : tie.In-loop invariant-loop decreases-loop) → c.before.loop.i < 32
-below c = lt_of_lt_of_le c.loop-test.true c.before.before.requires
+below : (c : tie.In-loop invariant-loop-i decreases-loop-i) → c.before.loop-i.i < 32
+below c = lt_of_lt_of_le c.loop-i-test.true c.before.before.requires
 
-loop_again : tie.Need-loop-preserved invariant-loop decreases-loop
+loop_again : tie.Need-loop-i-preserved invariant-loop-i decreases-loop-i
 unfolding both_at mark_at
 loop_again c =
     let l = c.before.before.before.before in
-    (add-one-le l.loop-test.true, scan_more _ _ _ l.before.loop.invariant.1 c.before.both.ensures c.if1.false)
+    (add-one-le l.loop-i-test.true, scan_more _ _ _ l.before.loop-i.invariant.1 c.before.both.ensures c.if-both.false)
 
 pub both_marks_spec : {M : Type 1} → statement M
 unfolding both_at mark_at
 both_marks_spec =
     tie.close
     (tie.spec
-    invariant-loop
-    decreases-loop
+    invariant-loop-i
+    decreases-loop-i
     (λ c. search (rules, scan))
     below
     (λ c. below c.before)
     (search rules)
     (λ c. search (rules, scan))
     (λ c. Fits-below {n = 32} tt (add-one-le (below c.before.before.before.before)))
-    (λ c. falls _ _ c.before.before.before.before.loop-test.true)
+    (λ c. falls _ _ c.before.before.before.before.loop-i-test.true)
     loop_again
     (λ c. search (rules, scan)))

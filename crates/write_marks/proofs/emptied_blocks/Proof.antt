@@ -14,33 +14,33 @@ use Rattle.write_marks.specs.EmptiedBits.{emptied_to, gather_none, gathering}
 use Rattle.write_marks.proofs.emptied_blocks.Statement.{statement}
 use Rattle.write_marks.proofs.emptied_blocks.Tie as tie
 
-abbrev invariant-loop : tie.invariant-loop
-invariant-loop starts sizes shares count k s bits₀ i₀ bits i = (i ≤ count) × (bits ≡ bits_below 32 (emptied_to (stored_of (marks_of starts sizes shares [] count)) k s i))
+abbrev invariant-loop-i : tie.invariant-loop-i
+invariant-loop-i starts sizes shares count k s bits₀ i₀ bits i = (i ≤ count) × (bits ≡ bits_below 32 (emptied_to (stored_of (marks_of starts sizes shares [] count)) k s i))
 
-abbrev decreases-loop : tie.decreases-loop
-decreases-loop starts sizes shares count k s bits₀ i₀ bits i = count - i
+abbrev decreases-loop-i : tie.decreases-loop-i
+decreases-loop-i starts sizes shares count k s bits₀ i₀ bits i = count - i
 
 -- update i stands within the arrays
-below : (c : tie.In-loop invariant-loop decreases-loop) → c.before.loop.i < 32
-below c = lt_of_lt_of_le c.loop-test.true c.before.before.requires.0
+below : (c : tie.In-loop invariant-loop-i decreases-loop-i) → c.before.loop-i.i < 32
+below c = lt_of_lt_of_le c.loop-i-test.true c.before.before.requires.0
 
 -- it is one of those that lie in the 32 blocks
-block-bits-requires : tie.Need-block-bits-requires invariant-loop decreases-loop
+block_bits-bits-requires : tie.Need-block_bits-bits-requires invariant-loop-i decreases-loop-i
 unfolding stored_of
-block-bits-requires c κs =
+block_bits-bits-requires c κs =
     let l = c.before.before.before.before.before.before.before in
     let fit = l.before.before.requires.1 in
-    (fit.some _ l.loop-test.true, fit.inside _ l.loop-test.true)
+    (fit.some _ l.loop-i-test.true, fit.inside _ l.loop-i-test.true)
 
-loop_again : tie.Need-loop-preserved invariant-loop decreases-loop
+loop_again : tie.Need-loop-i-preserved-then-is_emptied invariant-loop-i decreases-loop-i
 unfolding emptied_by_number touches_by_number stored_of
-loop_again c = (add-one-le c.before.before.before.before.before.before.before.before.loop-test.true, search gathering)
+loop_again c = (add-one-le c.before.before.before.before.before.before.before.before.loop-i-test.true, search gathering)
 
-loop_again_2 : tie.Need-loop-preserved-2 invariant-loop decreases-loop
+loop_again_2 : tie.Need-loop-i-preserved invariant-loop-i decreases-loop-i
 unfolding emptied_by_number touches_by_number stored_of
-loop_again_2 c = (add-one-le c.before.before.before.before.before.loop-test.true, search gathering)
+loop_again_2 c = (add-one-le c.before.before.before.before.before.loop-i-test.true, search gathering)
 
-returns : tie.Need-returns invariant-loop decreases-loop
+returns : tie.Need-returns invariant-loop-i decreases-loop-i
 unfolding stored_of
 returns c = search gathering
 
@@ -48,8 +48,8 @@ pub emptied_blocks_spec : {M : Type 1} → statement M
 emptied_blocks_spec =
     tie.close
     (tie.spec
-    invariant-loop
-    decreases-loop
+    invariant-loop-i
+    decreases-loop-i
     (λ c. (zero-le, gather_none _ _ _))
     (λ c. Fits-below {n = 32} tt (add-one-le (below c)))
     below
@@ -58,9 +58,9 @@ emptied_blocks_spec =
     (search rules)
     (λ c. below c.before.before.before.before.before)
     (λ c. below c.before.before.before.before.before.before)
-    block-bits-requires
-    (λ c. falls _ _ c.before.before.before.before.before.before.before.before.loop-test.true)
+    block_bits-bits-requires
+    (λ c. falls _ _ c.before.before.before.before.before.before.before.before.loop-i-test.true)
     loop_again
-    (λ c. falls _ _ c.before.before.before.before.before.loop-test.true)
+    (λ c. falls _ _ c.before.before.before.before.before.loop-i-test.true)
     loop_again_2
     returns)

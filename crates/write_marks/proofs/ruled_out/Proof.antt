@@ -14,29 +14,29 @@ use Rattle.write_marks.specs.StoredMarks.{stored_of, marks_of}
 use Rattle.write_marks.proofs.ruled_out.Statement.{statement}
 use Rattle.write_marks.proofs.ruled_out.Tie as tie
 
-abbrev invariant-loop : tie.invariant-loop
-invariant-loop starts sizes shares needed count k s i₀ i = (i ≤ count) × (any_below i (rules_out (stored_of (marks_of starts sizes shares needed count)) k s) ≡ false)
+abbrev invariant-loop-i : tie.invariant-loop-i
+invariant-loop-i starts sizes shares needed count k s i₀ i = (i ≤ count) × (any_below i (rules_out (stored_of (marks_of starts sizes shares needed count)) k s) ≡ false)
 
-abbrev decreases-loop : tie.decreases-loop
-decreases-loop starts sizes shares needed count k s i₀ i = count - i
+abbrev decreases-loop-i : tie.decreases-loop-i
+decreases-loop-i starts sizes shares needed count k s i₀ i = count - i
 
 -- update i stands within the arrays
-below : (c : tie.In-loop invariant-loop decreases-loop) → c.before.loop.i < 32
-below c = lt_of_lt_of_le c.loop-test.true c.before.before.requires
+below : (c : tie.In-loop invariant-loop-i decreases-loop-i) → c.before.loop-i.i < 32
+below c = lt_of_lt_of_le c.loop-i-test.true c.before.before.requires
 
-loop_again : tie.Need-loop-preserved invariant-loop decreases-loop
+loop_again : tie.Need-loop-i-preserved invariant-loop-i decreases-loop-i
 unfolding rules_out emptied_by_number touches_by_number stored_of
 loop_again c =
     let l = c.before.before.before.before.before.before in
-    (add-one-le l.loop-test.true, scan_more _ _ _ l.before.loop.invariant.1 c.before.rules-out.ensures c.if1.false)
+    (add-one-le l.loop-i-test.true, scan_more _ _ _ l.before.loop-i.invariant.1 c.before.rules_out.ensures c.if-rules_out.false)
 
 pub ruled_out_spec : {M : Type 1} → statement M
 unfolding ruled_out rules_out emptied_by_number touches_by_number stored_of
 ruled_out_spec =
     tie.close
     (tie.spec
-    invariant-loop
-    decreases-loop
+    invariant-loop-i
+    decreases-loop-i
     (λ c. search (rules, scan))
     below
     (λ c. below c.before)
@@ -45,6 +45,6 @@ ruled_out_spec =
     (search rules)
     (λ c. search (rules, scan))
     (λ c. Fits-below {n = 32} tt (add-one-le (below c.before.before.before.before.before.before)))
-    (λ c. falls _ _ c.before.before.before.before.before.before.loop-test.true)
+    (λ c. falls _ _ c.before.before.before.before.before.before.loop-i-test.true)
     loop_again
     (λ c. search (rules, scan)))

@@ -4,11 +4,11 @@ use borrow.Author.Rules.{rules}
 use Rattle.write_overlap.proofs.fills.Statement.{statement}
 use Rattle.write_overlap.proofs.fills.Tie as tie
 
-returns : tie.Need-returns
-returns c = rw (← c.before.within.ensures, c.if1.true)
+returns-then-within : tie.Need-returns-then-within
+returns-then-within c = rw (← c.before.within.ensures, c.if-within.true)
 
-returns-2 : tie.Need-returns-2
-returns-2 c = c.is-emptied.ensures ∙ rw (← c.before.before.within.ensures, c.before.if1.false)
+returns-else-within : tie.Need-returns-else-within
+returns-else-within c = c.is_emptied.ensures ∙ rw (← c.before.before.within.ensures, c.before.if-within.false)
 
 pub fills_spec : {M : Type 1} → statement M
-fills_spec = tie.close (tie.spec (search rules) (search rules) returns returns-2)
+fills_spec = tie.close (tie.spec (search rules) (search rules) returns-then-within returns-else-within)

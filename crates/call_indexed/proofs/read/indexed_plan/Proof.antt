@@ -1,9 +1,9 @@
 -- `call_indexed::read::indexed_plan` meets its contract: the order of the codes.
 use native.Mathlib.Omega.{arith}
 use Rattle.store_index.specs.Index.{line_of}
-use Rattle.store_index.specs.OwnIndex.{blocks_few}
-use Rattle.store_index.specs.OwnIndexLaws.{own_directory}
-use Rattle.call_indexed.specs.IndexedReadLaws.{indexed_bad, indexed_foreign, indexed_number, indexed_line}
+use Rattle.store_index.proofs.OwnIndex.{blocks_few}
+use Rattle.store_index.proofs.OwnIndexLaws.{own_directory}
+use Rattle.call_indexed.proofs.IndexedReadLaws.{indexed_bad, indexed_foreign, indexed_number, indexed_line}
 use Rattle.call_indexed.proofs.read.indexed_plan.Statement.{statement}
 use Rattle.call_indexed.proofs.read.indexed_plan.Tie as tie
 

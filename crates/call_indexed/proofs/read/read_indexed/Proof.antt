@@ -2,9 +2,9 @@
 use mathlib.Core.Path.{ap, ◌∙◌}
 use lib.ListN.{length}
 use Rattle.call_reads.specs.Read.{answered, copied}
-use Rattle.call_reads.specs.ReadLaws.{copied_long}
+use Rattle.call_reads.proofs.ReadLaws.{copied_long}
 use Rattle.call_indexed.specs.IndexedRead.{indexed_answer, indexed_bytes}
-use Rattle.call_indexed.specs.IndexedReadLaws.{indexed_copyable}
+use Rattle.call_indexed.proofs.IndexedReadLaws.{indexed_copyable}
 use Rattle.call_indexed.proofs.read.read_indexed.Statement.{statement}
 use Rattle.call_indexed.proofs.read.read_indexed.Tie as tie
 

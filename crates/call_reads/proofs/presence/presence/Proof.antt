@@ -4,7 +4,7 @@ use mathlib.Core.Path.{refl}
 use native.Mathlib.Omega.{arith}
 use lib.ListN.{length}
 use borrow.Author.Rules.{rules}
-use Rattle.store_directory.specs.ValidLaws.{blocks_few}
+use Rattle.store_directory.proofs.ValidLaws.{blocks_few}
 use Rattle.call_reads.specs.PresenceLaws.{presence_yes, presence_no}
 use Rattle.call_reads.proofs.presence.presence.Statement.{statement}
 use Rattle.call_reads.proofs.presence.presence.Tie as tie

@@ -1,7 +1,7 @@
 -- `call_reads::read::copy_planned` meets its contract, by cases of the plan.
 use borrow.Author.Rules.{rules}
 use Rattle.call_reads.specs.Read.{answered}
-use Rattle.call_reads.specs.ReadLaws.{copying}
+use Rattle.call_reads.proofs.ReadLaws.{copying}
 use Rattle.call_reads.proofs.read.copy_planned.Statement.{statement}
 use Rattle.call_reads.proofs.read.copy_planned.Tie as tie
 

@@ -3,7 +3,7 @@ use mathlib.Core.Path.{ap, ◌∙◌}
 use lib.ListN.{length}
 use borrow.Author.Rules.{rules}
 use Rattle.call_reads.specs.Read.{answered, copied, read_answer, read_bytes}
-use Rattle.call_reads.specs.ReadLaws.{copyable, copied_long}
+use Rattle.call_reads.proofs.ReadLaws.{copyable, copied_long}
 use Rattle.call_reads.proofs.read.read.Statement.{statement}
 use Rattle.call_reads.proofs.read.read.Tie as tie
 

@@ -1,6 +1,6 @@
 -- `call_reads::read::read_kind` meets its contract, by cases of the kind.
 use borrow.Author.Rules.{rules}
-use Rattle.call_reads.specs.ReadLaws.{kinds}
+use Rattle.call_reads.proofs.ReadLaws.{kinds}
 use Rattle.call_reads.proofs.read.read_kind.Statement.{statement}
 use Rattle.call_reads.proofs.read.read_kind.Tie as tie
 

@@ -1,7 +1,7 @@
 -- `call_reads::read::read_plan` meets its contract: the order of the codes.
 use borrow.Author.Rules.{rules}
-use Rattle.store_directory.specs.StoreLaws.{directory_few}
-use Rattle.call_reads.specs.ReadLaws.{read_bad, read_number, read_kind_lem}
+use Rattle.store_directory.proofs.StoreLaws.{directory_few}
+use Rattle.call_reads.proofs.ReadLaws.{read_bad, read_number, read_kind_lem}
 use Rattle.call_reads.proofs.read.read_plan.Statement.{statement}
 use Rattle.call_reads.proofs.read.read_plan.Tie as tie
 

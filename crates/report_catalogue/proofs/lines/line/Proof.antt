@@ -3,7 +3,7 @@ use native.Mathlib.Omega.{arith}
 use Rattle.report_text.specs.DigitLaws.{hex_long}
 use Rattle.report_text.specs.TextLaws.{added_more, added_long}
 use Rattle.report_catalogue.specs.Catalogue.{line_of}
-use Rattle.report_catalogue.specs.LineLaws.{revision_long}
+use Rattle.report_catalogue.proofs.LineLaws.{revision_long}
 use Rattle.report_catalogue.proofs.lines.line.Statement.{statement}
 use Rattle.report_catalogue.proofs.lines.line.Tie as tie
 

@@ -1,6 +1,6 @@
 -- `report_catalogue::lines::update_line_lem` meets its contract: the line of its five numbers.
 use native.Mathlib.Omega.{arith}
-use Rattle.report_catalogue.specs.LineLaws.{few_platforms, low_platform, line_is}
+use Rattle.report_catalogue.proofs.LineLaws.{few_platforms, low_platform, line_is}
 use Rattle.report_catalogue.proofs.lines.update_line.Statement.{statement}
 use Rattle.report_catalogue.proofs.lines.update_line.Tie as tie
 

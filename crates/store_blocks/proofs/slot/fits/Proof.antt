@@ -1,11 +1,11 @@
 -- `store_blocks::slot::fits` meets its contract: the length, then the rest of the last block.
 use borrow.Author.Rules.{rules}
 use Rattle.update_sizes.specs.Sizes.{blocks_of}
-use Rattle.store_blocks.specs.SlotCases.{fitting}
+use Rattle.store_blocks.proofs.SlotCases.{fitting}
 use Rattle.store_blocks.proofs.slot.fits.Statement.{statement}
 use Rattle.store_blocks.proofs.slot.fits.Tie as tie
 
-sub_filled : tie.Need-overflow-sub-filled
+sub_filled : tie.Need-overflow_sub-end
 unfolding blocks_of
 sub_filled c = search rules
 

@@ -1,7 +1,7 @@
 -- `store_blocks::slot::read_slot` meets its contract, by cases of the verdict.
 use borrow.Author.Rules.{rules}
 use Rattle.store_blocks.specs.Slot.{slot_of}
-use Rattle.store_blocks.specs.SlotCases.{slotting, good_dwords}
+use Rattle.store_blocks.proofs.SlotCases.{slotting, good_dwords}
 use Rattle.update_verdict.specs.VerdictLaws.{verdict_blocks}
 use Rattle.store_blocks.proofs.slot.read_slot.Statement.{statement}
 use Rattle.store_blocks.proofs.slot.read_slot.Tie as tie

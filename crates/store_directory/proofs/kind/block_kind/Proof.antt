@@ -11,25 +11,25 @@ use Rattle.store_directory.specs.KindScan.{finding}
 use Rattle.store_directory.proofs.kind.block_kind.Statement.{statement}
 use Rattle.store_directory.proofs.kind.block_kind.Tie as tie
 
-abbrev invariant-loop : tie.invariant-loop
-invariant-loop b d i₀ i = (i ≤ d.count) × (any_below i (owns_at d b) ≡ false)
+abbrev invariant-loop-i : tie.invariant-loop-i
+invariant-loop-i b d i₀ i = (i ≤ d.count) × (any_below i (owns_at d b) ≡ false)
 
-abbrev decreases-loop : tie.decreases-loop
-decreases-loop b d i₀ i = d.count - i
+abbrev decreases-loop-i : tie.decreases-loop-i
+decreases-loop-i b d i₀ i = d.count - i
 
-loop_again : tie.Need-loop-preserved invariant-loop decreases-loop
+loop_again : tie.Need-loop-i-preserved invariant-loop-i decreases-loop-i
 loop_again c =
     let w = c.before.before in
     let v = w.before.before in
     let l = v.before.before in
-    (add-one-le l.loop-test.true, kind_next _ _ _ l.before.loop.invariant.1 _ _ _ v.wide.ensures.0 w.wide2.ensures.0 c.before.owns.ensures c.if1.false)
+    (add-one-le l.loop-i-test.true, kind_next _ _ _ l.before.loop-i.invariant.1 _ _ _ v.wide-start.ensures.0 w.wide-size.ensures.0 c.before.owns.ensures c.if-owns.false)
 
 pub block_kind_spec : {M : Type 1} → statement M
 block_kind_spec =
     tie.close
     (tie.spec
-    invariant-loop
-    decreases-loop
+    invariant-loop-i
+    decreases-loop-i
     (λ c. search (rules, finding))
     (λ c. search rules)
     (λ c. search rules)

@@ -13,51 +13,51 @@ use Rattle.store_directory.specs.ScanLaws.{State, slot_read, state_named, state_
 use Rattle.store_directory.proofs.scan.scan.Statement.{statement}
 use Rattle.store_directory.proofs.scan.scan.Tie as tie
 
-abbrev invariant-loop : tie.invariant-loop
-invariant-loop s n starts₀ sizes₀ count₀ next₀ b₀ starts sizes count next b = (b ≤ n) × State s b count next starts sizes
+abbrev invariant-loop-b : tie.invariant-loop-b
+invariant-loop-b s n starts₀ sizes₀ count₀ next₀ b₀ starts sizes count next b = (b ≤ n) × State s b count next starts sizes
 
-abbrev decreases-loop : tie.decreases-loop
-decreases-loop s n starts₀ sizes₀ count₀ next₀ b₀ starts sizes count next b = n - b
+abbrev decreases-loop-b : tie.decreases-loop-b
+decreases-loop-b s n starts₀ sizes₀ count₀ next₀ b₀ starts sizes count next b = n - b
 
 -- block b and the next place in the arrays are within them
-block_below : (c : tie.In-loop invariant-loop decreases-loop) → c.before.loop.b < 32
-block_below c = lt_of_lt_of_le c.loop-test.true c.before.before.before.requires
+block_below : (c : tie.In-loop invariant-loop-b decreases-loop-b) → c.before.loop-b.b < 32
+block_below c = lt_of_lt_of_le c.loop-b-test.true c.before.before.before.requires
 
-place_below : (c : tie.In-loop invariant-loop decreases-loop) → c.before.loop.count < 32
-place_below c = lt_of_le_of_lt c.before.loop.invariant.1.few (block_below c)
+place_below : (c : tie.In-loop invariant-loop-b decreases-loop-b) → c.before.loop-b.count < 32
+place_below c = lt_of_le_of_lt c.before.loop-b.invariant.1.few (block_below c)
 
-loop_holds : tie.Need-loop-init invariant-loop decreases-loop
+loop_holds : tie.Need-loop-b-init invariant-loop-b decreases-loop-b
 loop_holds c = (zero-le, state_start _)
 
-returns : tie.Need-returns invariant-loop decreases-loop
+returns-in-Bad : tie.Need-returns-in-Bad invariant-loop-b decreases-loop-b
 unfolding scanned
-returns c = let r = c.before.before.before in
+returns-in-Bad c = let r = c.before.before.before in
     let t = r.before.before in
     let d = t.before.before in
-    let bad = slot_read _ _ _ _ _ r.before.from_block.ensures r.read-slot.ensures c.before.enum-told2.given.1 in
-    c.bad_store.ensures ∙ sym (rw (all_stop (sound d.before.before.args.s.now) d.before.before.args.n d.loop.b t.before.loop-test.true (state_bad _ _ _ _ _ _ d.loop.invariant.1 t.if1.true bad)))
+    let bad = slot_read _ _ _ _ _ r.before.from_block.ensures r.read_slot-found.ensures c.before.enum_told-in-Bad-1.given.1 in
+    c.bad_store.ensures ∙ sym (rw (all_stop (sound d.before.before.args.s.now) d.before.before.args.n d.loop-b.b t.before.loop-b-test.true (state_bad _ _ _ _ _ _ d.loop-b.invariant.1 t.if-next-b.true bad)))
 
-loop_again : tie.Need-loop-preserved invariant-loop decreases-loop
-loop_again c = let st = c.before.before.loop.invariant.1 in (
-  add-one-le c.before.loop-test.true,
+loop_again : tie.Need-loop-b-preserved invariant-loop-b decreases-loop-b
+loop_again c = let st = c.before.before.loop-b.invariant.1 in (
+  add-one-le c.before.loop-b-test.true,
   ⊎_elim (λ w. state_named _ _ _ _ _ _ _ _ _ _ w.5 w.6 w.7 w.8 (state_unused _ _ _ _ _ _ st w.0.taken (slot_read _ _ _ _ _ w.1.ensures w.2.ensures w.4.given.1)))
       (⊎_elim (λ w. state_named _ _ _ _ _ _ _ _ _ _ w.6 w.7 w.8 w.9 (state_update _ _ _ _ _ _ st (block_below c.before) w.0.taken _ (slot_read _ _ _ _ _ w.1.ensures w.2.ensures w.4.given.1)))
       (λ w. state_named _ _ _ _ _ _ _ _ _ _ w.1 w.2 w.3 w.4 (state_later _ _ _ _ _ _ st w.0.left)))
-      c.if1.branch,
+      c.if-next-b.branch,
 )
 
-returns-2 : tie.Need-returns-2 invariant-loop decreases-loop
+returns : tie.Need-returns invariant-loop-b decreases-loop-b
 unfolding scanned directory_to
-returns-2 c = let st = c.before.loop.invariant.1 in
-    let e : c.before.loop.b ≡ c.before.before.before.args.n = le_antisymm c.before.loop.invariant.0 c.loop-test.false in
+returns c = let st = c.before.loop-b.invariant.1 in
+    let e : c.before.loop-b.b ≡ c.before.before.before.args.n = le_antisymm c.before.loop-b.invariant.0 c.loop-b-test.false in
     rw (← e, st.all_sound, st.count_is, ← st.starts_are, ← st.sizes_are)
 
 pub scan_spec : {M : Type 1} → statement M
 scan_spec =
     tie.close
     (tie.spec
-    invariant-loop
-    decreases-loop
+    invariant-loop-b
+    decreases-loop-b
     loop_holds
     (search rules)
     (search rules)
@@ -74,8 +74,8 @@ scan_spec =
     (search rules)
     (search rules)
     (search rules)
-    returns
+    returns-in-Bad
     (search rules)
-    (λ c. falls _ _ c.before.loop-test.true)
+    (λ c. falls _ _ c.before.loop-b-test.true)
     loop_again
-    returns-2)
+    returns)

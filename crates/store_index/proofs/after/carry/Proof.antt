@@ -1,6 +1,6 @@
 -- `store_index::after::carry` meets its contract: the emptied lines cleared, then the run written.
 use native.Mathlib.Omega.{arith}
-use Rattle.store_index.specs.AfterLineLaws.{run_inside, after_run, after_none}
+use Rattle.store_index.proofs.AfterLineLaws.{run_inside, after_run, after_none}
 use Rattle.store_index.proofs.after.carry.Statement.{statement}
 use Rattle.store_index.proofs.after.carry.Tie as tie
 

@@ -4,7 +4,7 @@ use mathlib.Core.Path.{◌≡◌, refl}
 use Prim.Native.Nat.{◌/◌, ◌^◌, ◌<◌, ◌-◌, ◌≤◌}
 use native.Mathlib.Omega.{arith}
 use Rattle.store_index.specs.AfterLines.{Cleared}
-use Rattle.store_index.specs.AfterLineLaws.{low_few, clear_none, clear_left, clear_inside, clear_set, clear_unset, clear_done}
+use Rattle.store_index.proofs.AfterLineLaws.{low_few, clear_none, clear_left, clear_inside, clear_set, clear_unset, clear_done}
 use Rattle.store_index.proofs.after.clear_lines.Statement.{statement}
 use Rattle.store_index.proofs.after.clear_lines.Tie as tie
 

@@ -2,7 +2,7 @@
 use Prim.Native.Nat.{◌≤◌, ◌-◌}
 use native.Mathlib.Omega.{arith}
 use Rattle.store_index.specs.UpdateLines.{LinesPut}
-use Rattle.store_index.specs.UpdateLineLaws.{lines_begin, lines_turn, lines_end}
+use Rattle.store_index.proofs.UpdateLineLaws.{lines_begin, lines_turn, lines_end}
 use Rattle.store_index.proofs.lines.put_lines.Statement.{statement}
 use Rattle.store_index.proofs.lines.put_lines.Tie as tie
 

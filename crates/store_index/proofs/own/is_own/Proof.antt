@@ -6,10 +6,10 @@ use Prim.Native.Nat.{◌≤◌, ◌-◌}
 use native.Mathlib.Omega.{arith}
 use Rattle.laws.specs.Count.{count_below}
 use Rattle.update_header.specs.Fields.{revision}
-use Rattle.store_directory.specs.StoreLaws.{directory_few}
+use Rattle.store_directory.proofs.StoreLaws.{directory_few}
 use Rattle.store_index.specs.IndexColumns.{index_in}
 use Rattle.store_index.specs.OwnLines.{valid_directory, used_of, end_to, Behind, EntriesOwn}
-use Rattle.store_index.specs.OwnIndexLaws.{behind_none, behind_more, entry_inside, end_inside, blocks_none, blocks_few, blocks_more, own_none, own_more, own_done}
+use Rattle.store_index.proofs.OwnIndexLaws.{behind_none, behind_more, entry_inside, end_inside, blocks_none, blocks_few, blocks_more, own_none, own_more, own_done}
 use Rattle.store_index.proofs.own.is_own.Statement.{statement}
 use Rattle.store_index.proofs.own.is_own.Tie as tie
 

@@ -1,5 +1,5 @@
 -- `update_coverage::platforms::lowest_platform` meets its contract: the trailing zeros of the flags that count.
-use Rattle.update_coverage.specs.PlatformLaws.{zeros_first}
+use Rattle.update_coverage.proofs.PlatformLaws.{zeros_first}
 use Rattle.update_coverage.proofs.platforms.lowest_platform.Statement.{statement}
 use Rattle.update_coverage.proofs.platforms.lowest_platform.Tie as tie
 

@@ -1,5 +1,5 @@
 -- `update_coverage::platforms::platform_count` meets its contract: the ones of the flags that count.
-use Rattle.update_coverage.specs.PlatformLaws.{ones_count}
+use Rattle.update_coverage.proofs.PlatformLaws.{ones_count}
 use Rattle.update_coverage.proofs.platforms.platform_count.Statement.{statement}
 use Rattle.update_coverage.proofs.platforms.platform_count.Tie as tie
 

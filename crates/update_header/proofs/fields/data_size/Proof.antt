@@ -10,4 +10,4 @@ data_size_spec =
     (tie.spec
     (λ c κs. tt)
     (λ c κs. tt)
-    (λ c. rw (c.data-size-of.ensures, c.before.stored-data-size.ensures)))
+    (λ c. rw (c.data_size_of.ensures, c.before.stored_data_size.ensures)))

@@ -11,4 +11,4 @@ total_size_spec =
     (λ c κs. tt)
     (λ c κs. tt)
     (λ c κs. tt)
-    (λ c. rw (c.total-size-of.ensures, c.before.before.stored-data-size.ensures, c.before.stored-total-size.ensures)))
+    (λ c. rw (c.total_size_of.ensures, c.before.before.stored_data_size.ensures, c.before.stored_total_size.ensures)))

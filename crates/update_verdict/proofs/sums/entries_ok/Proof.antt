@@ -7,19 +7,19 @@ use Rattle.update_verdict.specs.Sums.{entry_ok}
 use Rattle.update_verdict.proofs.sums.entries_ok.Statement.{statement}
 use Rattle.update_verdict.proofs.sums.entries_ok.Tie as tie
 
-abbrev invariant-loop : tie.invariant-loop
-invariant-loop s d n want k₀ k = (k ≤ n) × (all_below k (entry_ok s d want) ≡ true)
+abbrev invariant-loop-k : tie.invariant-loop-k
+invariant-loop-k s d n want k₀ k = (k ≤ n) × (all_below k (entry_ok s d want) ≡ true)
 
-abbrev decreases-loop : tie.decreases-loop
-decreases-loop s d n want k₀ k = n - k
+abbrev decreases-loop-k : tie.decreases-loop-k
+decreases-loop-k s d n want k₀ k = n - k
 
 pub entries_ok_spec : {M : Type 1} → statement M
 unfolding entry_offset
 entries_ok_spec =
     tie.close
     (tie.spec
-    invariant-loop
-    decreases-loop
+    invariant-loop-k
+    decreases-loop-k
     (λ c. (omega arith, search each))
     (λ c κs. omega arith)
     (λ c. omega arith)

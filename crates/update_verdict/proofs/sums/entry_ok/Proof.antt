@@ -9,7 +9,7 @@ returns : tie.Need-returns
 unfolding entry_ok entry_offset
 returns c =
     rw
-    (c.sum_of.ensures, c.before.before.before.dword-inside.ensures, c.before.before.dword-inside2.ensures, c.before.dword-inside3.ensures)
+    (c.sum_of.ensures, c.before.before.before.dword_inside.ensures, c.before.before.dword_inside-2.ensures, c.before.dword_inside-3.ensures)
 
 pub entry_ok_spec : {M : Type 1} → statement M
 unfolding entry_offset

@@ -1,6 +1,6 @@
 -- `update_view::parts::front` meets its contract: the bytes by the verdict.
 use borrow.Author.Rules.{rules}
-use Rattle.update_view.specs.ViewLaws.{viewing}
+use Rattle.update_view.proofs.ViewLaws.{viewing}
 use Rattle.update_view.proofs.parts.front.Statement.{statement}
 use Rattle.update_view.proofs.parts.front.Tie as tie
 

@@ -1,6 +1,6 @@
 -- `write_outcome::bytes::empty_if` meets its contract: a marked update is filled, another stays.
 use native.Mathlib.Omega.{arith}
-use Rattle.write_outcome.specs.EmptiedEntries.{emptying}
+use Rattle.write_outcome.proofs.EmptiedEntries.{emptying}
 use Rattle.write_outcome.proofs.bytes.empty_if.Statement.{statement}
 use Rattle.write_outcome.proofs.bytes.empty_if.Tie as tie
 

@@ -4,7 +4,8 @@ use mathlib.Core.Path.{◌≡◌, refl}
 use lib.ListN.{length}
 use native.Mathlib.Omega.{arith}
 use Rattle.write_outcome.specs.Cleared.{cleared}
-use Rattle.write_outcome.specs.EmptiedEntries.{marked, marks_more, marking}
+use Rattle.write_outcome.specs.EmptiedEntries.{marked}
+use Rattle.write_outcome.proofs.EmptiedEntries.{marks_more, marking}
 use Rattle.write_outcome.proofs.bytes.empty_marked.Statement.{statement}
 use Rattle.write_outcome.proofs.bytes.empty_marked.Tie as tie
 

@@ -1,7 +1,7 @@
 -- `write_outcome::bytes::write_bytes` meets its contract: the marked updates emptied, the candidate put and the rest of its last block filled are the outcome's bytes.
 use native.Mathlib.Omega.{arith}
 use Rattle.update_sizes.specs.Sizes.{blocks_of}
-use Rattle.write_outcome.specs.EmptiedEntries.{all_written}
+use Rattle.write_outcome.proofs.EmptiedEntries.{all_written}
 use Rattle.write_outcome.proofs.bytes.write_bytes.Statement.{statement}
 use Rattle.write_outcome.proofs.bytes.write_bytes.Tie as tie
 

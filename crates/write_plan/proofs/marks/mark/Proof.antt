@@ -3,8 +3,8 @@ use mathlib.Core.Bool.{false}
 use Prim.Native.Nat.{◌≤◌, ◌-◌}
 use native.Mathlib.Omega.{arith}
 use Rattle.laws.specs.Arrays.{Filled, filled_none, filled_more}
-use Rattle.store_directory.specs.StoreLaws.{directory_few}
-use Rattle.store_directory.specs.PairedLaws.{directory_pairs}
+use Rattle.store_directory.proofs.StoreLaws.{directory_few}
+use Rattle.store_directory.proofs.PairedLaws.{directory_pairs}
 use Rattle.processor_list.specs.Processors.{list_of}
 use Rattle.write_plan.specs.CandidateMarks.{shares_entry, needed_entry}
 use Rattle.write_plan.specs.CandidateMarkLaws.{shares_is, needed_is, marks_made}

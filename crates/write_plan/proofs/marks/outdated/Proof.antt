@@ -6,11 +6,11 @@ use native.Mathlib.Omega.{arith}
 use Rattle.laws.specs.Below.{any_below, rows, any_none}
 use Rattle.laws.specs.Loops.{nest_more}
 use Rattle.update_coverage.specs.Covers.{pair_count}
-use Rattle.update_coverage.specs.PairLaws.{count_is}
-use Rattle.store_directory.specs.StoreLaws.{directory_few}
-use Rattle.store_directory.specs.PairedLaws.{directory_pairs}
+use Rattle.update_coverage.proofs.PairLaws.{count_is}
+use Rattle.store_directory.proofs.StoreLaws.{directory_few}
+use Rattle.store_directory.proofs.PairedLaws.{directory_pairs}
 use Rattle.update_sharing.specs.Shares.{shares_at, shares}
-use Rattle.update_sharing.specs.ShareLaws.{share_more, share_stop}
+use Rattle.update_sharing.proofs.ShareLaws.{share_more, share_stop}
 use Rattle.write_plan.specs.CandidateMarks.{outdates}
 use Rattle.write_plan.specs.CandidateMarkLaws.{outdate_older, outdate_apart, outdate_stop, outdate_done}
 use Rattle.write_plan.proofs.marks.outdated.Statement.{statement}

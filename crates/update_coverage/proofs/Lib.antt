@@ -1,0 +1,5 @@
+-- The laws of the definitions in specs/, for this crate and those above it.
+pub mod CoverLaws
+pub mod CoverageOtherData
+pub mod PairLaws
+pub mod PlatformLaws
