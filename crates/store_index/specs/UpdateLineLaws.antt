@@ -11,5 +11,5 @@ use Rattle.store_index.specs.IndexColumns.{columns_of, index_in}
 use Rattle.store_index.specs.UpdateLines.{Columns, kind_from, line, LinePut, LinesPut}
 
 -- number v put at place b of column k
-abbrev put_at : List (List ℕ) → ℕ → ℕ → ℕ → List (List ℕ)
+abbrev pub put_at : List (List ℕ) → ℕ → ℕ → ℕ → List (List ℕ)
 put_at cs k b v = set cs k (set (get_or cs k []) b v)

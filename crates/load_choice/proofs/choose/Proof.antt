@@ -4,21 +4,21 @@ use Rattle.load_choice.specs.LoadLaws.{choose_bad, choose_platform, choose_off, 
 use Rattle.load_choice.proofs.choose.Statement.{statement}
 use Rattle.load_choice.proofs.choose.Tie as tie
 
-returns : tie.Need-returns
-returns c =
+returns-then-loading : tie.Need-returns-then-loading
+returns-then-loading c =
     let l = c.before.before.before in
-    choose_on _ _ _ _ _ l.before.read-store.ensures l.if1.true _ c.before.before.if2.true c.before.if3.true c.find.ensures
+    choose_on _ _ _ _ _ l.before.read_store-d.ensures l.if-ok.true _ c.before.before.if-platform-le7.true c.before.if-loading.true c.find.ensures
 
-returns-2 : tie.Need-returns-2
-returns-2 c =
+returns-else-loading : tie.Need-returns-else-loading
+returns-else-loading c =
     let l = c.before.before in
-    choose_off _ _ _ _ _ l.before.read-store.ensures l.if1.true c.before.if2.true c.if3.false
+    choose_off _ _ _ _ _ l.before.read_store-d.ensures l.if-ok.true c.before.if-platform-le7.true c.if-loading.false
 
-returns-3 : tie.Need-returns-3
-returns-3 c = choose_platform _ _ _ _ _ c.before.before.read-store.ensures c.before.if1.true c.if2.false
+returns-else-platform-le7 : tie.Need-returns-else-platform-le7
+returns-else-platform-le7 c = choose_platform _ _ _ _ _ c.before.before.read_store-d.ensures c.before.if-ok.true c.if-platform-le7.false
 
-returns-4 : tie.Need-returns-4
-returns-4 c = choose_bad _ _ _ _ _ c.before.read-store.ensures c.if1.false
+returns-else-ok : tie.Need-returns-else-ok
+returns-else-ok c = choose_bad _ _ _ _ _ c.before.read_store-d.ensures c.if-ok.false
 
 pub choose_spec : {M : Type 1} → statement M
 choose_spec =
@@ -26,7 +26,7 @@ choose_spec =
     (tie.spec
     (search rules)
     (λ c κs. search rules)
-    returns
-    returns-2
-    returns-3
-    returns-4)
+    returns-then-loading
+    returns-else-loading
+    returns-else-platform-le7
+    returns-else-ok)

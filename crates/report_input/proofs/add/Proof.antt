@@ -9,19 +9,19 @@ use Rattle.report_input.specs.InputLaws.{adding}
 use Rattle.report_input.proofs.add.Statement.{statement}
 use Rattle.report_input.proofs.add.Tie as tie
 
-abbrev invariant-loop : tie.invariant-loop
-invariant-loop buffer₀ have piece n i₀ buffer i =
+abbrev invariant-loop-i : tie.invariant-loop-i
+invariant-loop-i buffer₀ have piece n i₀ buffer i =
     (i ≤ n) × (n ≤ length piece) × (n ≤ length buffer₀ - have) × (length buffer ≡ length buffer₀) × (buffer ≡ put_at buffer₀ have piece i)
 
-abbrev decreases-loop : tie.decreases-loop
-decreases-loop buffer₀ have piece n i₀ buffer i = n - i
+abbrev decreases-loop-i : tie.decreases-loop-i
+decreases-loop-i buffer₀ have piece n i₀ buffer i = n - i
 
 pub add_spec : {M : Type 1} → statement M
 add_spec =
     tie.close
     (tie.spec
-    invariant-loop
-    decreases-loop
+    invariant-loop-i
+    decreases-loop-i
     (λ c κs. search rules)
     (λ c. search (rules, adding))
     (λ c. omega arith)

@@ -5,10 +5,10 @@ use Rattle.report_text.specs.TextLaws.{added_more, added_long}
 use Rattle.report_text.proofs.decimal.Statement.{statement}
 use Rattle.report_text.proofs.decimal.Tie as tie
 
-returns-2 : tie.Need-returns-2
-returns-2 c =
+returns-else-n-lt10 : tie.Need-returns-else-n-lt10
+returns-else-n-lt10 c =
     let f = c.before.before.before in
-    rw (decimal_two f.args.n (omega arith) f.requires.0) (added_more _ _ _ _ _ c.before.byte2.ensures c.byte3.ensures)
+    rw (decimal_two f.args.n (omega arith) f.requires.0) (added_more _ _ _ _ _ c.before.byte-else-n-lt10.ensures c.byte-else-n-lt10-2.ensures)
 
 pub decimal_spec : {M : Type 1} → statement M
 decimal_spec =
@@ -22,6 +22,6 @@ decimal_spec =
     (λ c κs. omega arith)
     (λ c. omega arith)
     (λ c. omega arith)
-    (λ c κs. omega (arith, added_long _ _ _ c.byte2.ensures))
-    (λ c. rw (decimal_one _ c.before.if1.true) c.byte.ensures)
-    returns-2)
+    (λ c κs. omega (arith, added_long _ _ _ c.byte-else-n-lt10.ensures))
+    (λ c. rw (decimal_one _ c.before.if-n-lt10.true) c.byte.ensures)
+    returns-else-n-lt10)

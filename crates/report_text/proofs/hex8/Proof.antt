@@ -9,17 +9,17 @@ use Rattle.report_text.specs.TextLaws.{added_none, added_more, added_long}
 use Rattle.report_text.proofs.hex8.Statement.{statement}
 use Rattle.report_text.proofs.hex8.Tie as tie
 
-abbrev invariant-loop : tie.invariant-loop
-invariant-loop n r₀ i₀ r i = (r ≡ added r₀ (hex_to n i)) × (r.len ≡ r₀.len + i) × (i ≤ 8)
+abbrev invariant-loop-i : tie.invariant-loop-i
+invariant-loop-i n r₀ i₀ r i = (r ≡ added r₀ (hex_to n i)) × (r.len ≡ r₀.len + i) × (i ≤ 8)
 
-abbrev decreases-loop : tie.decreases-loop
-decreases-loop n r₀ i₀ r i = 8 - i
+abbrev decreases-loop-i : tie.decreases-loop-i
+decreases-loop-i n r₀ i₀ r i = 8 - i
 
-loop_again : tie.Need-loop-preserved invariant-loop decreases-loop
+loop_again : tie.Need-loop-i-preserved invariant-loop-i decreases-loop-i
 loop_again c =
-    let l = c.before.before.before.loop.invariant in
-    let b = c.byte.ensures in (
-      rw (hex_more _ _ _ c.before.hex-digit.ensures) (added_more _ _ _ _ _ l.0 b),
+    let l = c.before.before.before.loop-i.invariant in
+    let b = c.byte-r.ensures in (
+      rw (hex_more _ _ _ c.before.hex_digit.ensures) (added_more _ _ _ _ _ l.0 b),
       omega (arith, added_long _ _ _ b),
       omega arith,
     )
@@ -29,8 +29,8 @@ unfolding hex_to hex8
 hex8_spec =
     tie.close
     (tie.spec
-    invariant-loop
-    decreases-loop
+    invariant-loop-i
+    decreases-loop-i
     (λ c. (added_none _, omega arith, omega arith))
     (λ c. omega arith)
     (λ c. omega arith)
@@ -40,4 +40,4 @@ hex8_spec =
     (λ c. omega arith)
     (λ c. omega arith)
     loop_again
-    (λ c. let e : c.before.loop.i ≡ 8 = omega arith in rw e at c.before.loop.invariant.0))
+    (λ c. let e : c.before.loop-i.i ≡ 8 = omega arith in rw e at c.before.loop-i.invariant.0))

@@ -21,7 +21,7 @@ abbrev decreases-loop-i : tie.decreases-loop-i
 decreases-loop-i starts sizes shares count k s bits₀ i₀ bits i = count - i
 
 -- update i stands within the arrays
-below : (c : tie.In-loop invariant-loop-i decreases-loop-i) → c.before.loop-i.i < 32
+below : (c : tie.In-loop-i invariant-loop-i decreases-loop-i) → c.before.loop-i.i < 32
 below c = lt_of_lt_of_le c.loop-i-test.true c.before.before.requires.0
 
 -- it is one of those that lie in the 32 blocks

@@ -22,10 +22,10 @@ abbrev decreases-loop-i : tie.decreases-loop-i
 decreases-loop-i starts sizes shares count k s limit touched₀ i₀ touched i = count - i
 
 -- update i stands within the arrays, and the count is small
-below : (c : tie.In-loop invariant-loop-i decreases-loop-i) → c.before.loop-i.i < 32
+below : (c : tie.In-loop-i invariant-loop-i decreases-loop-i) → c.before.loop-i.i < 32
 below c = lt_of_lt_of_le c.loop-i-test.true c.before.before.requires
 
-few : (c : tie.In-loop invariant-loop-i decreases-loop-i) → c.before.loop-i.touched < 32
+few : (c : tie.In-loop-i invariant-loop-i decreases-loop-i) → c.before.loop-i.touched < 32
 few c = lt_of_le_of_lt c.before.loop-i.invariant.2 (below c)
 
 loop_again : tie.Need-loop-i-preserved-then-loses invariant-loop-i decreases-loop-i

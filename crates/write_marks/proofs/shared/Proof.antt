@@ -19,7 +19,7 @@ abbrev decreases-loop-i : tie.decreases-loop-i
 decreases-loop-i shares count sharing₀ i₀ sharing i = count - i
 
 -- update i stands within the arrays
-below : (c : tie.In-loop invariant-loop-i decreases-loop-i) → c.before.loop-i.i < 32
+below : (c : tie.In-loop-i invariant-loop-i decreases-loop-i) → c.before.loop-i.i < 32
 below c = lt_of_lt_of_le c.loop-i-test.true c.before.before.requires
 
 loop_again : tie.Need-loop-i-preserved-then-shares-at invariant-loop-i decreases-loop-i

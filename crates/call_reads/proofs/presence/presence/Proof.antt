@@ -9,11 +9,11 @@ use Rattle.call_reads.specs.PresenceLaws.{presence_yes, presence_no}
 use Rattle.call_reads.proofs.presence.presence.Statement.{statement}
 use Rattle.call_reads.proofs.presence.presence.Tie as tie
 
-returns : tie.Need-returns
-returns c = presence_yes _ _ _ c.before.read-store.ensures c.if1.true refl
+returns-then-ok : tie.Need-returns-then-ok
+returns-then-ok c = presence_yes _ _ _ c.before.read_store-d.ensures c.if-ok.true refl
 
-returns-2 : tie.Need-returns-2
-returns-2 c = presence_no _ _ _ c.before.before.read-store.ensures c.before.if1.false c.refuse.ensures
+returns-else-ok : tie.Need-returns-else-ok
+returns-else-ok c = presence_no _ _ _ c.before.before.read_store-d.ensures c.before.if-ok.false c.refuse.ensures
 
 pub presence_spec : {M : Type 1} → statement M
 presence_spec =
@@ -22,5 +22,5 @@ presence_spec =
     (search rules)
     (λ c. let l : length c.before.before.before.args.store.now / 2048 ≤ 32 = search blocks_few in omega arith)
     (search rules)
-    returns
-    returns-2)
+    returns-then-ok
+    returns-else-ok)

@@ -5,9 +5,9 @@ use Rattle.call_reads.proofs.ReadLaws.{copying}
 use Rattle.call_reads.proofs.read.copy_planned.Statement.{statement}
 use Rattle.call_reads.proofs.read.copy_planned.Tie as tie
 
-returns : tie.Need-returns
+returns-in-Copy : tie.Need-returns-in-Copy
 unfolding answered
-returns c = (search copying, search copying)
+returns-in-Copy c = (search copying, search copying)
 
 pub copy_planned_spec : {M : Type 1} → statement M
 copy_planned_spec =
@@ -21,5 +21,5 @@ copy_planned_spec =
     (search rules)
     (search rules)
     (search rules)
-    returns
+    returns-in-Copy
     (λ c. (search copying, search copying)))

@@ -5,19 +5,19 @@ use Rattle.call_reads.proofs.ReadLaws.{read_bad, read_number, read_kind_lem}
 use Rattle.call_reads.proofs.read.read_plan.Statement.{statement}
 use Rattle.call_reads.proofs.read.read_plan.Tie as tie
 
-returns : tie.Need-returns
-returns c =
+returns-then-block-store : tie.Need-returns-then-block-store
+returns-then-block-store c =
     let k = c.before in
     let l = k.before.before in
-    read_kind_lem _ _ _ _ l.before.read-store.ensures _ _ l.if1.true k.before.if2.true k.block-kind.ensures c.read_kind.ensures
+    read_kind_lem _ _ _ _ l.before.read_store-d.ensures _ _ l.if-ok.true k.before.if-block-store.true k.block_kind.ensures c.read_kind.ensures
 
-returns-2 : tie.Need-returns-2
-returns-2 c =
+returns-else-block-store : tie.Need-returns-else-block-store
+returns-else-block-store c =
     let l = c.before in
-    read_number _ _ _ _ l.before.read-store.ensures l.if1.true c.if2.false
+    read_number _ _ _ _ l.before.read_store-d.ensures l.if-ok.true c.if-block-store.false
 
-returns-3 : tie.Need-returns-3
-returns-3 c = read_bad _ _ _ _ c.before.read-store.ensures c.if1.false
+returns-else-ok : tie.Need-returns-else-ok
+returns-else-ok c = read_bad _ _ _ _ c.before.read_store-d.ensures c.if-ok.false
 
 pub read_plan_spec : {M : Type 1} → statement M
 read_plan_spec =
@@ -26,6 +26,6 @@ read_plan_spec =
     (search rules)
     (λ c κs. search directory_few)
     (search rules)
-    returns
-    returns-2
-    returns-3)
+    returns-then-block-store
+    returns-else-block-store
+    returns-else-ok)

@@ -10,15 +10,15 @@ use Rattle.report_text.specs.TextLaws.{text_length}
 use Rattle.report_text.proofs.give.give.Statement.{statement}
 use Rattle.report_text.proofs.give.give.Tie as tie
 
-returns : tie.Need-returns
-returns c =
+returns-then-n-out : tie.Need-returns-then-n-out
+returns-then-n-out c =
     let s = c.before.before.before.before.before.before.before.before in
     let e = text_length s.args.t (search length_unmapped) s.requires in
     let l : s.args.t.len ≤ length s.args.out.now = omega arith in
     (search giving, search giving)
 
-returns-2 : tie.Need-returns-2
-returns-2 c =
+returns-else-n-out : tie.Need-returns-else-n-out
+returns-else-n-out c =
     let s = c.before.before in
     let e = text_length s.args.t (search length_unmapped) s.requires in
     let l : length s.args.out.now < s.args.t.len = omega arith in
@@ -39,5 +39,5 @@ give_spec =
     (λ c. omega arith)
     (λ c. omega arith)
     (λ c. search rules)
-    returns
-    returns-2)
+    returns-then-n-out
+    returns-else-n-out)

@@ -4,21 +4,21 @@ use Rattle.store_index.specs.AfterLines.{low_zeros}
 use Rattle.store_index.proofs.after.low_zeros.Statement.{statement}
 use Rattle.store_index.proofs.after.low_zeros.Tie as tie
 
-returns : tie.Need-returns
+returns-then-bits-eq0 : tie.Need-returns-then-bits-eq0
 unfolding low_zeros
-returns c = rw (eq-eqb _ _ c.if1.true)
+returns-then-bits-eq0 c = rw (eq-eqb _ _ c.if-bits-eq0.true)
 
-returns-2 : tie.Need-returns-2
+returns-then-bits-eq0-2 : tie.Need-returns-then-bits-eq0-2
 unfolding low_zeros
-returns-2 c = rw (ne_eqb _ _ c.before.if1.false, eq-eqb _ _ c.if2.true)
+returns-then-bits-eq0-2 c = rw (ne_eqb _ _ c.before.if-bits-eq0.false, eq-eqb _ _ c.if-bits-eq0-2.true)
 
-returns-3 : tie.Need-returns-3
+returns-then-bits-eq0-3 : tie.Need-returns-then-bits-eq0-3
 unfolding low_zeros
-returns-3 c = let b = c.before in rw (ne_eqb _ _ b.before.if1.false, ne_eqb _ _ b.if2.false, eq-eqb _ _ c.if3.true)
+returns-then-bits-eq0-3 c = let b = c.before in rw (ne_eqb _ _ b.before.if-bits-eq0.false, ne_eqb _ _ b.if-bits-eq0-2.false, eq-eqb _ _ c.if-bits-eq0-3.true)
 
-returns-4 : tie.Need-returns-4
+returns-else-bits-eq0-3 : tie.Need-returns-else-bits-eq0-3
 unfolding low_zeros
-returns-4 c = let b = c.before in rw (ne_eqb _ _ b.before.if1.false, ne_eqb _ _ b.if2.false, ne_eqb _ _ c.if3.false)
+returns-else-bits-eq0-3 c = let b = c.before in rw (ne_eqb _ _ b.before.if-bits-eq0.false, ne_eqb _ _ b.if-bits-eq0-2.false, ne_eqb _ _ c.if-bits-eq0-3.false)
 
 pub low_zeros_spec : {M : Type 1} → statement M
-low_zeros_spec = tie.close (tie.spec returns returns-2 returns-3 returns-4)
+low_zeros_spec = tie.close (tie.spec returns-then-bits-eq0 returns-then-bits-eq0-2 returns-then-bits-eq0-3 returns-else-bits-eq0-3)

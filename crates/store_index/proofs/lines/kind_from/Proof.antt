@@ -4,13 +4,13 @@ use Rattle.store_index.specs.UpdateLines.{kind_from}
 use Rattle.store_index.proofs.lines.kind_from.Statement.{statement}
 use Rattle.store_index.proofs.lines.kind_from.Tie as tie
 
-returns : tie.Need-returns
+returns-then-start-b : tie.Need-returns-then-start-b
 unfolding kind_from
-returns c = rw (eq-eqb _ _ c.if1.true)
+returns-then-start-b c = rw (eq-eqb _ _ c.if-start-b.true)
 
-returns-2 : tie.Need-returns-2
+returns-else-start-b : tie.Need-returns-else-start-b
 unfolding kind_from
-returns-2 c = rw (ne_eqb _ _ c.if1.false)
+returns-else-start-b c = rw (ne_eqb _ _ c.if-start-b.false)
 
 pub kind_from_spec : {M : Type 1} → statement M
-kind_from_spec = tie.close (tie.spec returns returns-2)
+kind_from_spec = tie.close (tie.spec returns-then-start-b returns-else-start-b)

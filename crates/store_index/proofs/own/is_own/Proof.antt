@@ -13,55 +13,55 @@ use Rattle.store_index.proofs.OwnIndexLaws.{behind_none, behind_more, entry_insi
 use Rattle.store_index.proofs.own.is_own.Statement.{statement}
 use Rattle.store_index.proofs.own.is_own.Tie as tie
 
-abbrev invariant-loop : tie.invariant-loop
-invariant-loop store count starts sizes columns used differs₀ blocks₀ i₀ differs blocks i =
+abbrev invariant-loop-i : tie.invariant-loop-i
+invariant-loop-i store count starts sizes columns used differs₀ blocks₀ i₀ differs blocks i =
     let d = valid_directory count starts sizes in
     ((differs ≡ 0) ↔ EntriesOwn store d (index_in columns) i)
     × ((blocks ≡ count_below (end_to d i) (used_of store)) × (Behind d i (end_to d i) × ((end_to d i ≤ 32) × ((i ≤ count) × (count ≤ 32)))))
 
-abbrev decreases-loop : tie.decreases-loop
-decreases-loop store count starts sizes columns used differs₀ blocks₀ i₀ differs blocks i = count - i
+abbrev decreases-loop-i : tie.decreases-loop-i
+decreases-loop-i store count starts sizes columns used differs₀ blocks₀ i₀ differs blocks i = count - i
 
-update-lines-requires : tie.Need-update-lines-requires invariant-loop decreases-loop
-update-lines-requires c κs =
+update_lines-differs-requires : tie.Need-update_lines-differs-requires invariant-loop-i decreases-loop-i
+update_lines-differs-requires c κs =
     let w = c.before.before in
     let v = w.before.before in
     let l = v.before.before in
     let e = l.before.before.before.before.requires in
-    entry_inside _ _ e refl l.before.loop.i _ _ l.loop-test.true v.wide.ensures.0 w.wide2.ensures.0
+    entry_inside _ _ e refl l.before.loop-i.i _ _ l.loop-i-test.true v.wide-start.ensures.0 w.wide-size.ensures.0
 
-loop_again : tie.Need-loop-preserved invariant-loop decreases-loop
+loop_again : tie.Need-loop-i-preserved invariant-loop-i decreases-loop-i
 loop_again c =
     let r = c.before in
     let w = r.before.before in
     let v = w.before.before in
     let l = v.before.before in
-    let h = l.before.loop in
+    let h = l.before.loop-i in
     let e = l.before.before.before.before.requires in
-    let t = l.loop-test.true in
-    let q = v.wide.ensures.0 in
-    let k = w.wide2.ensures.0 in
-    let f = r.revision.ensures ∙ ap revision r.before.from_block.ensures in (
-      own_more _ _ e refl h.i _ _ _ t q k f _ h.differs _ h.invariant.0 c.update-lines.ensures,
+    let t = l.loop-i-test.true in
+    let q = v.wide-start.ensures.0 in
+    let k = w.wide-size.ensures.0 in
+    let f = r.revision-revision.ensures ∙ ap revision r.before.from_block.ensures in (
+      own_more _ _ e refl h.i _ _ _ t q k f _ h.differs _ h.invariant.0 c.update_lines-differs.ensures,
       (
         blocks_more _ _ e refl h.i _ _ _ t q k f h.blocks h.invariant.1.0 h.invariant.1.1.0,
         (behind_more _ _ e refl h.i t, (end_inside _ _ e refl h.i t, (omega (arith, t), h.invariant.1.1.1.1.1))),
       ),
     )
 
-returns : tie.Need-returns invariant-loop decreases-loop
+returns : tie.Need-returns invariant-loop-i decreases-loop-i
 returns c =
-    let l = c.before.loop in
+    let l = c.before.loop-i in
     let u = c.before.before in
     let e = u.before.before.requires in
-    own_done _ _ e refl _ l.i _ _ l.differs (omega (arith, c.loop-test.false, l.invariant.1.1.1.1.0)) l.invariant.1.1.0 l.invariant.1.1.1.0 l.invariant.0 l.invariant.1.0 u.used-lines.ensures
+    own_done _ _ e refl _ l.i _ _ l.differs (omega (arith, c.loop-i-test.false, l.invariant.1.1.1.1.0)) l.invariant.1.1.0 l.invariant.1.1.1.0 l.invariant.0 l.invariant.1.0 u.used_lines-used.ensures
 
 pub is_own_spec : {M : Type 1} → statement M
 is_own_spec =
     tie.close
     (tie.spec
-    invariant-loop
-    decreases-loop
+    invariant-loop-i
+    decreases-loop-i
     (λ c κs. tt)
     (λ c.
     let n = blocks_none _ _ in
@@ -72,10 +72,10 @@ is_own_spec =
     (λ c κs. tt)
     (λ c κs. tt)
     (λ c κs. tt)
-    update-lines-requires
+    update_lines-differs-requires
     (λ c.
     let l = c.before.before.before.before.before.before.before in
-    omega (arith, blocks_few _ _ _ l.before.loop.invariant.1.0 l.before.loop.invariant.1.1.1.0))
+    omega (arith, blocks_few _ _ _ l.before.loop-i.invariant.1.0 l.before.loop-i.invariant.1.1.1.0))
     (λ c. omega arith)
     (λ c. omega arith)
     loop_again

@@ -9,18 +9,18 @@ use Rattle.store_index.specs.OwnLineLaws.{used_not, used_more}
 use Rattle.store_index.proofs.own.used_lines.Statement.{statement}
 use Rattle.store_index.proofs.own.used_lines.Tie as tie
 
-abbrev invariant-loop : tie.invariant-loop
-invariant-loop columns used₀ b₀ used b = (used ≡ count_below b (used_in (index_in columns))) × ((used ≤ b) × (b ≤ 32))
+abbrev invariant-loop-b : tie.invariant-loop-b
+invariant-loop-b columns used₀ b₀ used b = (used ≡ count_below b (used_in (index_in columns))) × ((used ≤ b) × (b ≤ 32))
 
-abbrev decreases-loop : tie.decreases-loop
-decreases-loop columns used₀ b₀ used b = 32 - b
+abbrev decreases-loop-b : tie.decreases-loop-b
+decreases-loop-b columns used₀ b₀ used b = 32 - b
 
 pub used_lines_spec : {M : Type 1} → statement M
 used_lines_spec =
     tie.close
     (tie.spec
-    invariant-loop
-    decreases-loop
+    invariant-loop-b
+    decreases-loop-b
     (λ c. (count_none _, (omega arith, omega arith)))
     (λ c. omega arith)
     (λ c. omega arith)
@@ -36,9 +36,9 @@ used_lines_spec =
     (λ c. omega arith)
     (λ c. omega arith)
     (λ c. omega arith)
-    (λ c. let l = c.before.before.before.before.before.before.loop in (used_not _ l.b _ l.invariant.0 c.if1.true, (omega arith, omega arith)))
+    (λ c. let l = c.before.before.before.before.before.before.loop-b in (used_not _ l.b _ l.invariant.0 c.if-all-eq0.true, (omega arith, omega arith)))
     (λ c. omega arith)
     (λ c. omega arith)
     (λ c. omega arith)
-    (λ c. let l = c.before.before.before.before.before.before.loop in (used_more _ l.b _ l.invariant.0 c.if1.false, (omega arith, omega arith)))
-    (λ c. let l = c.before.loop in count_done _ l.b _ l.invariant.0 32 32 refl (omega arith) (omega arith)))
+    (λ c. let l = c.before.before.before.before.before.before.loop-b in (used_more _ l.b _ l.invariant.0 c.if-all-eq0.false, (omega arith, omega arith)))
+    (λ c. let l = c.before.loop-b in count_done _ l.b _ l.invariant.0 32 32 refl (omega arith) (omega arith)))
