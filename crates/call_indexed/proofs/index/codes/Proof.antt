@@ -4,13 +4,13 @@ use Rattle.call_indexed.specs.IndexCall.{index_codes}
 use Rattle.call_indexed.proofs.index.codes.Statement.{statement}
 use Rattle.call_indexed.proofs.index.codes.Tie as tie
 
-returns : tie.Need-returns
+returns-then-ok : tie.Need-returns-then-ok
 unfolding index_codes unless
-returns c = rw c.if1.true
+returns-then-ok c = rw c.if-ok.true
 
-returns-2 : tie.Need-returns-2
+returns-else-ok : tie.Need-returns-else-ok
 unfolding index_codes unless
-returns-2 c = rw c.if1.false
+returns-else-ok c = rw c.if-ok.false
 
 pub codes_spec : {M : Type 1} → statement M
-codes_spec = tie.close (tie.spec returns returns-2)
+codes_spec = tie.close (tie.spec returns-then-ok returns-else-ok)

@@ -9,7 +9,7 @@ returns : tie.Need-returns
 unfolding index_reply
 returns c =
     let p = c.before.before in
-    rw (c.index_in.ensures ∙ ap index_in p.put-index.ensures.1, p.put-index.ensures.0)
+    rw (c.index_in-index.ensures ∙ ap index_in p.put_index-codes.ensures.1, p.put_index-codes.ensures.0)
 
 pub index_spec : {M : Type 1} → statement M
 index_spec = tie.close (tie.spec (λ c κs. tt) (λ c κs. tt) returns)

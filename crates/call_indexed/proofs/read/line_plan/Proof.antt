@@ -7,17 +7,17 @@ use Rattle.call_indexed.specs.IndexedRead.{line_plan}
 use Rattle.call_indexed.proofs.read.line_plan.Statement.{statement}
 use Rattle.call_indexed.proofs.read.line_plan.Tie as tie
 
-returns : tie.Need-returns
+returns-then-kind-eq-FIRST : tie.Need-returns-then-kind-eq-FIRST
 unfolding line_plan unless
-returns c = rw (eq-eqb _ _ c.before.if1.true) c.read-blocks.ensures
+returns-then-kind-eq-FIRST c = rw (eq-eqb _ _ c.before.if-kind-eq-FIRST.true) c.read_blocks.ensures
 
-returns-2 : tie.Need-returns-2
+returns-then-kind-eq-UNUSED : tie.Need-returns-then-kind-eq-UNUSED
 unfolding line_plan unless
-returns-2 c = rw (ne_eqb _ _ c.before.before.if1.false, eq-eqb _ _ c.before.if2.true) c.read-blocks2.ensures
+returns-then-kind-eq-UNUSED c = rw (ne_eqb _ _ c.before.before.if-kind-eq-FIRST.false, eq-eqb _ _ c.before.if-kind-eq-UNUSED.true) c.read_blocks-then-kind-eq-UNUSED.ensures
 
-returns-3 : tie.Need-returns-3
+returns-else-kind-eq-UNUSED : tie.Need-returns-else-kind-eq-UNUSED
 unfolding line_plan unless
-returns-3 c = rw (ne_eqb _ _ c.before.if1.false, ne_eqb _ _ c.if2.false)
+returns-else-kind-eq-UNUSED c = rw (ne_eqb _ _ c.before.if-kind-eq-FIRST.false, ne_eqb _ _ c.if-kind-eq-UNUSED.false)
 
 pub line_plan_spec : {M : Type 1} → statement M
-line_plan_spec = tie.close (tie.spec (search rules) (search rules) returns returns-2 returns-3)
+line_plan_spec = tie.close (tie.spec (search rules) (search rules) returns-then-kind-eq-FIRST returns-then-kind-eq-UNUSED returns-else-kind-eq-UNUSED)

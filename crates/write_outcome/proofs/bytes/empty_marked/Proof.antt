@@ -9,18 +9,18 @@ use Rattle.write_outcome.proofs.EmptiedEntries.{marks_more, marking}
 use Rattle.write_outcome.proofs.bytes.empty_marked.Statement.{statement}
 use Rattle.write_outcome.proofs.bytes.empty_marked.Tie as tie
 
-abbrev invariant-loop : tie.invariant-loop
-invariant-loop store₀ starts sizes count gone i₀ store i = (i ≤ count) × (length store ≡ length store₀) × (store ≡ cleared store₀ (marked starts gone i))
+abbrev invariant-loop-i : tie.invariant-loop-i
+invariant-loop-i store₀ starts sizes count gone i₀ store i = (i ≤ count) × (length store ≡ length store₀) × (store ≡ cleared store₀ (marked starts gone i))
 
-abbrev decreases-loop : tie.decreases-loop
-decreases-loop store₀ starts sizes count gone i₀ store i = count - i
+abbrev decreases-loop-i : tie.decreases-loop-i
+decreases-loop-i store₀ starts sizes count gone i₀ store i = count - i
 
 pub empty_marked_spec : {M : Type 1} → statement M
 empty_marked_spec =
     tie.close
     (tie.spec
-    invariant-loop
-    decreases-loop
+    invariant-loop-i
+    decreases-loop-i
     (λ c. (omega arith, refl, search marking))
     (λ c. omega arith)
     (λ c. omega arith)
@@ -28,6 +28,6 @@ empty_marked_spec =
     (λ c κs. search marking)
     (λ c. omega arith)
     (λ c. omega arith)
-    (λ c. (omega arith, omega arith, marks_more _ _ _ _ _ _ _ _ c.before.before.before.before.before.before.before.before.before.requires c.before.before.before.before.before.before.loop-test.true c.before.before.before.before.before.before.before.loop.invariant.2 c.before.before.empty-if.ensures))
+    (λ c. (omega arith, omega arith, marks_more _ _ _ _ _ _ _ _ c.before.before.before.before.before.before.before.before.before.requires c.before.before.before.before.before.before.loop-i-test.true c.before.before.before.before.before.before.before.loop-i.invariant.2 c.before.before.empty_if.ensures))
     (λ c. omega arith)
     (λ c. search marking))

@@ -24,4 +24,4 @@ write_bytes_spec =
     let put = fill.before.before.before.before in
     let emptied = put.before.before.before.before in
     let pre = emptied.before.before.before.before.requires in
-    all_written _ _ _ _ _ _ _ _ emptied.empty-marked.ensures put.put.ensures fill.fill.ensures pre.1.1 pre.1.0.0))
+    all_written _ _ _ _ _ _ _ _ emptied.empty_marked.ensures put.put.ensures fill.fill.ensures pre.1.1 pre.1.0.0))
