@@ -12,8 +12,8 @@ text_of_spec =
     tie.close
     (tie.spec
     (λ c κs. tt)
-    (λ c. omega (arith, blocks_few _ _ c.before.read-store.ensures c.if1.true))
-    (λ c κs. (search directory_good, c.before.read-store.ensures, search count_is))
+    (λ c. omega (arith, blocks_few _ _ c.before.read_store-d.ensures c.if-ok.true))
+    (λ c κs. (search directory_good, c.before.read_store-d.ensures, search count_is))
     (λ c κs. tt)
     (λ c. omega arith)
     (λ c κs. omega (arith, none_long _ c.before.empty.ensures))

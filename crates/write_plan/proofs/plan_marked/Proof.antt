@@ -5,21 +5,21 @@ use Rattle.write_plan.specs.PlanLaws.{marked_both, marked_placed}
 use Rattle.write_plan.proofs.plan_marked.Statement.{statement}
 use Rattle.write_plan.proofs.plan_marked.Tie as tie
 
-returns : tie.Need-returns
-returns c = marked_both _ _ _ _ c.before.both-marks.ensures c.if1.true
+returns-then-both_marks : tie.Need-returns-then-both_marks
+returns-then-both_marks c = marked_both _ _ _ _ c.before.both_marks.ensures c.if-both_marks.true
 
-returns-2 : tie.Need-returns-2
+returns : tie.Need-returns
 unfolding block_count
-returns-2 c =
+returns c =
     let t = c.before.before in
-    marked_placed _ _ _ _ t.both-marks.ensures _ c.before.if1.false c.place.ensures
+    marked_placed _ _ _ _ t.both_marks.ensures _ c.before.if-both_marks.false c.place.ensures
 
 pub plan_marked_spec : {M : Type 1} → statement M
 plan_marked_spec =
     tie.close
     (tie.spec
     (λ c κs. omega arith)
-    returns
+    returns-then-both_marks
     (λ c. omega arith)
     (λ c κs. omega arith)
-    returns-2)
+    returns)

@@ -12,7 +12,7 @@ unfolding line_of
 returns c =
     let b = c.before.before in
     let h = b.before in
-    (search added_more, omega (arith, revision_long _ _ _ _ _ h.hex8.ensures b.byte.ensures))
+    (search added_more, omega (arith, revision_long _ _ _ _ _ h.hex8.ensures b.byte-middle.ensures))
 
 pub line_spec : {M : Type 1} → statement M
 line_spec =
@@ -22,6 +22,6 @@ line_spec =
     (λ c κs. omega arith)
     (λ c κs. omega arith)
     (λ c κs. omega (arith, added_long _ _ _ c.hex8.ensures, hex_long c.before.before.before.args.revision))
-    (λ c κs. omega (arith, revision_long _ _ _ _ _ c.before.hex8.ensures c.byte.ensures))
-    (λ c κs. omega (arith, revision_long _ _ _ _ _ c.before.before.hex8.ensures c.before.byte.ensures))
+    (λ c κs. omega (arith, revision_long _ _ _ _ _ c.before.hex8.ensures c.byte-middle.ensures))
+    (λ c κs. omega (arith, revision_long _ _ _ _ _ c.before.before.hex8.ensures c.before.byte-middle.ensures))
     returns)
