@@ -36,7 +36,12 @@ use Rattle.write_call.specs.Write.{good_plan, judged_plan, write_plan, written, 
 use Rattle.write_call.specs.Demand.{Passes}
 use Rattle.write_call.specs.Planned.{plan_run}
 use Rattle.write_call.proofs.Chosen.{chosen_none, both_marks_none, planned_best}
-use Rattle.write_call.specs.Answered.{NoLegal, FullOrPlanned, full, planned, numbers}
+use Rattle.write_call.specs.Answered.{NoLegal, FullOrPlanned, full, planned}
+
+-- the answer's numbers, the emptied blocks by their definition
+abbrev numbers : List ℕ → List ℕ → ℕ → ℕ → WrittenNumbers
+numbers old cand start emptied =
+    record { ah = success; al = none; carry = false; start = start; emptied = emptied; emptied_blocks = emptied_blocks old (emptied_at old cand start) }
 
 -- an answer with a start and a count: the plan is that run, check 9 passed, and the emptied blocks are those of that start
 answered_run : (old cand : List ℕ) (back : ℕ) (p : Plan) (a : WrittenNumbers) → answered old cand back p ≡ Written a

@@ -33,7 +33,11 @@ use Rattle.write_plan.specs.Plan.{placed}
 use Rattle.write_plan.specs.declared.Plan.{Plan}
 use Rattle.write_plan.specs.declared.Plan.TheVariants.{Run, Refuse}
 use Rattle.write_call.specs.Write.{good_plan, judged_plan, write_plan, emptied_at, written, answered, write_answer, bytes_after, write_bytes}
-use Rattle.write_call.specs.Refusals.{coded}
+
+-- a plan refuses with a code that is not SUCCESS
+unfoldable coded : Plan → Bool
+coded (Run start emptied) = true
+coded (Refuse ah al) = not (eqb ah success)
 
 placed_coded : (h : StoredUpdates) (p : Pick) → coded (placed h p) ≡ true
 unfolding placed coded

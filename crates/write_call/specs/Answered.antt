@@ -38,8 +38,3 @@ NoLegal old list cand = (start : ℕ) (e : ℕ → Bool) → Legal old list cand
 pub data FullOrPlanned (old : List ℕ) (list : ProcessorList) (cand : List ℕ) : Type 0 where
   full : (al : ℕ) → write_plan old list cand ≡ Refuse storage_full al → NoLegal old list cand → FullOrPlanned old list cand
   planned : (start emptied : ℕ) → write_plan old list cand ≡ Run start emptied → FullOrPlanned old list cand
-
--- the answer's numbers, the emptied blocks by their definition
-abbrev numbers : List ℕ → List ℕ → ℕ → ℕ → WrittenNumbers
-numbers old cand start emptied =
-    record { ah = success; al = none; carry = false; start = start; emptied = emptied; emptied_blocks = emptied_blocks old (emptied_at old cand start) }

@@ -11,7 +11,6 @@ pub mod Counts
 pub mod Chosen
 pub mod Answered
 pub mod WriteCases
-pub mod Refusals
 pub mod Outdated
 pub mod OutdatedLaws
 pub mod RunFree

@@ -3,11 +3,11 @@ use borrow.Author.Tests.{eq-eqb, ne_eqb}
 use Rattle.board_index_words.proofs.index_case.Statement.{statement}
 use Rattle.board_index_words.proofs.index_case.Tie as tie
 
-returns : tie.Need-returns
-returns c = rw (eq-eqb _ _ c.if1.true)
+returns-then-ah-eq-SUCCESS : tie.Need-returns-then-ah-eq-SUCCESS
+returns-then-ah-eq-SUCCESS c = rw (eq-eqb _ _ c.if-ah-eq-SUCCESS.true)
 
-returns-2 : tie.Need-returns-2
-returns-2 c = rw (ne_eqb _ _ c.if1.false)
+returns-else-ah-eq-SUCCESS : tie.Need-returns-else-ah-eq-SUCCESS
+returns-else-ah-eq-SUCCESS c = rw (ne_eqb _ _ c.if-ah-eq-SUCCESS.false)
 
 pub index_case_spec : {M : Type 1} → statement M
-index_case_spec = tie.close (tie.spec returns returns-2)
+index_case_spec = tie.close (tie.spec returns-then-ah-eq-SUCCESS returns-else-ah-eq-SUCCESS)

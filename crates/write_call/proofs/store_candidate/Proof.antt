@@ -14,9 +14,9 @@ returns c =
     let emptied = filled.before in
     let sized = emptied.before in
     let y = sized.before.before.before.requires in
-    let k = sized.blocks-of.ensures in (
-      blocks_are _ _ _ _ y.0 _ (k ∙ ap blocks_of y.1) _ emptied.emptied_blocks.ensures,
-      stored_bytes _ _ _ _ y.0 _ _ _ _ y.1 k filled.to_fill.ensures written.write_bytes.ensures,
+    let k = sized.blocks_of-k.ensures in (
+      blocks_are _ _ _ _ y.0 _ (k ∙ ap blocks_of y.1) _ emptied.emptied_blocks-blocks.ensures,
+      stored_bytes _ _ _ _ y.0 _ _ _ _ y.1 k filled.to_fill-gone.ensures written.write_bytes.ensures,
     )
 
 pub store_candidate_spec : {M : Type 1} → statement M
