@@ -6,7 +6,7 @@
 --   numbers_of    the case's numbers, in the document's order
 --   Coded         the codes are as the document wants them: a call that was done has SUCCESS, AL 0 and no carry; a refusal has another AH; carry
 --                 is set exactly if AH is not 0
-use Rattle.std.specs.Prelude.{ℕ, ◌≡◌, Bool, true, false, not, List, [], ◌∷◌, eqb}
+use Rattle.std.specs.Prelude.{ℕ, ◌≡◌, Bool, true, false, List, [], ◌∷◌, eqb}
 use Rattle.call_answers.specs.Codes.{success, none}
 use Rattle.call_answers.specs.declared.answer.Answer.{Answer}
 use Rattle.call_answers.specs.declared.answer.Answer.TheVariants.{Presence, Written, Control, Read, Refused}

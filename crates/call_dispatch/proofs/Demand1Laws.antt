@@ -1,19 +1,16 @@
 -- Demand 1 holds of every call.
 --   demand1     the theorem
 --   demanded    the same of what a call gave
-use Rattle.std.specs.Prelude.{ℕ, ◌<◌, ◌≤◌, ◌≡◌, Bool, false, cond, List, ◌⊎◌, length, eqb}
+use Rattle.std.specs.Prelude.{ℕ, ◌≤◌, ◌≡◌, Bool, false, List, ◌⊎◌, length, eqb}
 use Rattle.std.proofs.Math.Path.{refl}
-use Rattle.std.proofs.Common.{sym, ◌∙◌, inr, ⊎_elim, arith, eqb-true, eq-eqb, ne_eqb}
+use Rattle.std.proofs.Common.{inr, ⊎_elim, arith, eqb-true}
 use Rattle.std.proofs.Math.Bool.{true}
 use Rattle.std.proofs.Math.Logic.{inl}
 use Rattle.std.proofs.lemmas.Bool.{eqb-false}
 use Rattle.laws.specs.Orders.{impossible}
-use Rattle.call_answers.specs.Codes.{not_implemented}
-use Rattle.call_answers.specs.Answers.{ah_of, Coded}
+use Rattle.call_answers.specs.Answers.{Coded}
 use Rattle.call_answers.specs.declared.answer.Answer.{Answer}
 use Rattle.call_answers.specs.declared.answer.Reply.{Reply}
-use Rattle.call_answers.specs.declared.answer.Refused.{Refused as RefusedNumbers}
-use Rattle.call_answers.specs.declared.answer.Answer.TheVariants.{Presence, Control, Refused}
 use Rattle.call_control.specs.Control.{status_of, accepted, control_reply}
 use Rattle.call_reads.specs.Presence.{presence_answer}
 use Rattle.call_reads.specs.Read.{read_answer, read_bytes}

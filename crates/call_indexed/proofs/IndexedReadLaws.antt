@@ -5,7 +5,7 @@
 --   foreign_plan       another index is refused
 --   indexed_bad .. indexed_line    the order of the codes
 --   indexed_copyable   what the plan may rely on
-use Rattle.std.specs.Prelude.{ℕ, ◌/◌, ◌<◌, ◌≤◌, ◌≡◌, Bool, cond, List, length, eqb}
+use Rattle.std.specs.Prelude.{ℕ, ◌/◌, ◌<◌, ◌≤◌, ◌≡◌, Bool, List, length}
 use Rattle.std.proofs.Math.Path.{refl, ap}
 use Rattle.std.proofs.Common.{sym, ◌∙◌, eq-or-lt_of_le, arith}
 use Rattle.std.proofs.Math.Bool.{true, false}
@@ -22,7 +22,7 @@ use Rattle.store_directory.proofs.StoreLaws.{directory_ok}
 use Rattle.store_directory.proofs.DirectoryLaws.{kind_owned, kind_free}
 use Rattle.store_directory.specs.declared.Directory.{Directory}
 use Rattle.store_directory.specs.declared.kind.Kind.{Kind}
-use Rattle.store_index.specs.Index.{update_line, stored_line, line_at, line_in, line_of, index_by, index_of}
+use Rattle.store_index.specs.Index.{update_line, stored_line, line_at, line_of, index_of}
 use Rattle.store_index.specs.SameIndex.{same_index}
 use Rattle.store_index.specs.SameIndexLaws.{same_self}
 use Rattle.store_index.proofs.OwnIndex.{own_line}
@@ -34,7 +34,7 @@ use Rattle.call_reads.specs.Read.{read_kind, read_plan, answered, copied, read_a
 use Rattle.call_reads.specs.CopyBounds.{Copyable}
 use Rattle.call_reads.proofs.ReadLaws.{copyable}
 use Rattle.call_reads.specs.declared.read.ReadPlan.{ReadPlan}
-use Rattle.call_reads.specs.declared.read.ReadPlan.TheVariants.{Copy, Refuse}
+use Rattle.call_reads.specs.declared.read.ReadPlan.TheVariants.{Refuse}
 use Rattle.call_indexed.specs.IndexedRead.{line_plan, indexed_plan, indexed_answer, indexed_bytes}
 
 module _ (s : List ℕ) (ok : store_ok s ≡ true) (b m : ℕ) (l : b < block_count s) where

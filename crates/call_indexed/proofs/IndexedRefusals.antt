@@ -6,19 +6,15 @@ use Rattle.std.specs.Prelude.{ℕ, ◌≡◌, Bool, List, length}
 use Rattle.std.proofs.Math.Path.{refl, ap}
 use Rattle.std.proofs.Common.{◌∙◌}
 use Rattle.std.proofs.Math.Bool.{true, false}
-use Rattle.laws.specs.Unless.{unless}
-use Rattle.store_directory.specs.Scan.{store_ok}
 use Rattle.store_index.specs.Index.{index_of}
 use Rattle.store_index.specs.SameIndex.{same_index}
 use Rattle.store_index.specs.declared.Index.{Index}
-use Rattle.call_answers.specs.Codes.{read_failure, bad_store}
 use Rattle.call_answers.specs.Answers.{Coded}
 use Rattle.call_answers.specs.declared.answer.Refused.{Refused as RefusedNumbers}
 use Rattle.call_answers.specs.declared.answer.Answer.TheVariants.{Refused}
 use Rattle.call_reads.proofs.ReadLaws.{copied_long}
 use Rattle.call_reads.specs.ReadRefusals.{coded}
 use Rattle.call_reads.proofs.ReadRefusals.{plan_coded, answered_coded, answered_refused}
-use Rattle.call_reads.specs.declared.read.ReadPlan.TheVariants.{Refuse}
 use Rattle.call_indexed.specs.IndexedRead.{indexed_plan, indexed_answer, indexed_bytes}
 use Rattle.call_indexed.proofs.IndexedReadLaws.{plan_own, foreign_plan, indexed_copyable}
 

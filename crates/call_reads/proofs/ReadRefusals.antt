@@ -4,7 +4,7 @@
 --   answered_refused              a plan that refuses changes no byte of the destination
 --   read_refused     a refused read changes no byte of the destination
 --   read_kept        the destination is as it was, or the read was done
-use Rattle.std.specs.Prelude.{ℕ, ◌*◌, ◌≡◌, Bool, true, false, not, List, ◌⊎◌, length, eqb, leb, ltb}
+use Rattle.std.specs.Prelude.{ℕ, ◌*◌, ◌≡◌, Bool, true, false, List, ◌⊎◌, length, leb, ltb}
 use Rattle.std.proofs.Math.Path.{refl}
 use Rattle.std.proofs.Math.Logic.{inl, inr}
 use Rattle.std.proofs.lemmas.Bool.{not-true}

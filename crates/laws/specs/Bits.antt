@@ -19,7 +19,7 @@ use native.Mathlib.Omega.{arith}
 use Rattle.std.proofs.Math.Dec.{eqb}
 use Rattle.std.proofs.Math.Pow.{split, high, low, field, mod-mod-pow, shr_lt}
 use Rattle.std.proofs.lemmas.Nat.{shl-shr, or_shr, and_le_l, and_le_r}
-use Rattle.std.specs.Int.Bits.{bit_and, bit_or, bit_xor, or_step, or_add_and, xor_add_and, xor_self}
+use Rattle.std.specs.Int.Bits.{bit_or, bit_xor, or_step, or_add_and, xor_add_and}
 use Rattle.std.proofs.lemmas.Bool.{lt-leb}
 use Rattle.laws.specs.Orders.{le_or_lt}
 use Rattle.laws.specs.Below.{all_below, all_at}

@@ -6,9 +6,6 @@
 --   Promised          what a pick says: of none, that each number below k is shut; of a number, IsLeast
 use Prim.Native.Nat.{ℕ, zero, suc, ◌<◌, ◌≤◌}
 use Rattle.std.specs.Prelude.{◌≡◌, Bool, true, false, cond, ltb}
-use Rattle.std.proofs.Math.Path.{refl}
-use Rattle.std.proofs.Common.{sym, ◌∙◌, true≢false, arith, ltb-true, ltb-false}
-use borrow.Author.Count.{below_none, below_more}
 
 pub data Pick : Type 0 where
   nowhere : Pick

@@ -4,7 +4,7 @@
 use Rattle.std.specs.Prelude.{ℕ, ◌≡◌, Bool, true, false, not, ◌&&◌, List, length}
 use Rattle.std.proofs.Common.{◌∙◌}
 use Rattle.laws.specs.Below.{any_below, any_cong}
-use Rattle.laws.specs.Arrays.{Filled, mark_at}
+use Rattle.laws.specs.Arrays.{mark_at}
 use Rattle.processor_list.specs.Processors.{ProcessorList, covers_listed, covers_one, needed_for, is_needed}
 use Rattle.processor_list.specs.Covered.{needed_by_marks, Covered}
 

@@ -10,7 +10,7 @@ use Rattle.update_coverage.specs.Covers.{covers}
 use Rattle.update_sharing.specs.Shares.{shares}
 use Rattle.update_coverage.proofs.CoverLaws.{covers_platform}
 use Rattle.update_sharing.proofs.ShareLaws.{shares_law}
-use Rattle.processor_list.specs.Processors.{ProcessorList, Listed, covers_listed, covers_one, needed_for, is_needed, Needed}
+use Rattle.processor_list.specs.Processors.{ProcessorList, covers_listed, covers_one, needed_for, is_needed, Needed}
 
 pub needed_law : (list : ProcessorList) (cand u : List ℕ) → (is_needed list cand u ≡ true) ↔ Needed list cand u
 unfolding is_needed needed_for covers_listed

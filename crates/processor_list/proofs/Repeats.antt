@@ -1,7 +1,7 @@
 -- "Repeats are harmless" (document 01, "The store"): a list counts by the processors that it lists, whatever their order and however often.
 --   covers_same     an update covers some processor of the one exactly if it covers some of the other
 --   needed_same     the same of a listed processor that the candidate doesn't cover
-use Rattle.std.specs.Prelude.{ℕ, ◌≡◌, true, List, ◌↔◌, length, get_or}
+use Rattle.std.specs.Prelude.{ℕ, ◌≡◌, true, List, length, get_or}
 use Rattle.std.proofs.Math.Path.{refl}
 use Rattle.laws.specs.Bools.{bool_same}
 use Rattle.laws.specs.Below.{any_at, any_stop}

@@ -3,7 +3,7 @@
 --   GoodList, good_list    what a right list says, from what a call answered
 --   list_few, list_same, list_right    parts of it
 --   listed_platform        a platform of a right list is at most 7
-use Rattle.std.specs.Prelude.{ℕ, ◌<◌, ◌≤◌, ◌≡◌, refl, Bool, true, false, ◌&&◌, List, get_or, leb, eqb}
+use Rattle.std.specs.Prelude.{ℕ, ◌<◌, ◌≤◌, ◌≡◌, refl, Bool, true, false, ◌&&◌, get_or, leb, eqb}
 use Rattle.std.proofs.Common.{sym, ◌∙◌}
 use native.Mathlib.Omega.{arith}
 use Rattle.std.proofs.Math.ListN.{length}

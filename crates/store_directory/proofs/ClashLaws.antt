@@ -10,7 +10,7 @@ use Rattle.std.proofs.Common.{◌∙◌}
 use native.Mathlib.Omega.{arith}
 use Rattle.laws.specs.Below.{any_below, any_more, any_stop}
 use Rattle.laws.specs.Loops.{scan_more}
-use Rattle.laws.specs.Arrays.{Filled, filled_none, filled_more}
+use Rattle.laws.specs.Arrays.{filled_none, filled_more}
 use Rattle.update_coverage.specs.Covers.{pairs_of}
 use Rattle.update_coverage.specs.declared.Pairs.{Pairs}
 use Rattle.update_sharing.specs.Shares.{headers_apart, shares}

@@ -3,9 +3,9 @@
 --   clear_none .. clear_done                          the loop over the bits of the emptied blocks
 --   run_inside                                        the run ends at block 32 or before
 --   after_run, after_none                             the whole index, with a run and without one
-use Rattle.std.specs.Prelude.{ℕ, suc, ◌+◌, ◌*◌, ◌/◌, ◌%◌, ◌^◌, ◌<◌, ◌≤◌, ◌≡◌, Bool, List, ◌⊎◌}
+use Rattle.std.specs.Prelude.{ℕ, ◌+◌, ◌*◌, ◌/◌, ◌%◌, ◌^◌, ◌<◌, ◌≤◌, ◌≡◌, Bool, List}
 use Rattle.std.proofs.Math.Path.{refl, ap}
-use Rattle.std.proofs.Common.{sym, ◌∙◌, inl, inr, eq-or-lt_of_le, pow_pos, pow_mono, shr-shr}
+use Rattle.std.proofs.Common.{sym, ◌∙◌, eq-or-lt_of_le, pow_pos, pow_mono, shr-shr}
 use Rattle.std.proofs.Math.Bool.{true, false, cond}
 use Rattle.std.proofs.Math.Logic.{⊎_elim}
 use Rattle.std.proofs.Math.Nat.{div-eq_of_lt, mod-lt}

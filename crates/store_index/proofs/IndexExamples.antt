@@ -7,12 +7,10 @@
 --   above            a start above 31 places nothing
 --   no_size          nor does a size of 0
 --   far              nor does a run whose end is above 2^32
-use Rattle.std.specs.Prelude.{ℕ, ◌≡◌, refl, replicate}
+use Rattle.std.specs.Prelude.{◌≡◌, refl}
 use Rattle.laws.specs.Bits.{bit}
 use Rattle.laws.specs.Span.{spans}
 use Rattle.laws.specs.Unless.{unless}
-use Rattle.store_index.specs.declared.Line.{Line}
-use Rattle.store_index.specs.declared.Index.{Index}
 use Rattle.store_index.specs.Index.{unused_line, update_line, line_of}
 use Rattle.store_index.specs.IndexAfter.{cleared_line, line_after}
 use Rattle.store_index.specs.IndexExamples.{nines, nine}

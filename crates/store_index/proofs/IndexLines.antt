@@ -3,7 +3,7 @@
 --   lines_valid                 a store that has an update is valid
 --   lines_inside                an update ends at block 32 or before
 --   lines_done                  all lines stand: it is the store's index
-use Rattle.std.specs.Prelude.{ℕ, ◌+◌, ◌<◌, ◌≤◌, ◌≡◌, refl, Bool, true, false, cond, List, length, get_or, replicate, ltb}
+use Rattle.std.specs.Prelude.{ℕ, ◌+◌, ◌<◌, ◌≤◌, ◌≡◌, refl, Bool, true, false, List, length, get_or, replicate}
 use Rattle.std.proofs.Common.{sym, ap, subst, ◌∙◌, true≢false, eq-or-lt_of_le, lt-ltb, le-ltb}
 use Rattle.std.proofs.Math.Logic.{⊎_elim}
 use native.Mathlib.Omega.{arith}
@@ -15,7 +15,7 @@ use Rattle.laws.specs.Tabulate.{tabulate}
 use Rattle.laws.specs.Unless.{unless}
 use Rattle.update_header.specs.Fields.{revision}
 use Rattle.store_blocks.specs.Blocks.{from_block, block_count}
-use Rattle.store_directory.specs.Scan.{first, size_at, bad_store, store_ok, directory}
+use Rattle.store_directory.specs.Scan.{first, bad_store, store_ok, directory}
 use Rattle.store_directory.specs.Valid.{Owned}
 use Rattle.store_directory.specs.DirectoryEntries.{start_of, size_of}
 use Rattle.store_directory.proofs.StoreLaws.{directory_ok, directory_good}
@@ -25,7 +25,7 @@ use Rattle.store_directory.proofs.ValidLaws.{store_valid}
 use Rattle.store_directory.specs.declared.Directory.{Directory}
 use Rattle.store_index.specs.Index.{unused_line, stored_line, line_at, line_in, line_of, index_by, all_unused, index_of}
 use Rattle.store_index.specs.IndexColumns.{columns_of, index_in}
-use Rattle.store_index.specs.UpdateLines.{Columns, LinesPut}
+use Rattle.store_index.specs.UpdateLines.{LinesPut}
 use Rattle.store_index.proofs.UpdateLineLaws.{columns_are}
 use Rattle.store_index.proofs.LineLaws.{owned_or_free, owned_line, free_line}
 use Rattle.store_index.specs.IndexLines.{LinesTo}

@@ -6,8 +6,8 @@
 --   free_line       the line of a block that no update has
 --   index_is        an index is settled by its 32 lines
 --   line_by         line b of an index of lines
-use Prim.Native.Nat.{ℕ, zero, suc, ◌+◌, ◌<◌, ◌≤◌}
-use Rattle.std.specs.Prelude.{◌≡◌, Bool, cond, List, ◌⊎◌, length, get_or, eqb}
+use Prim.Native.Nat.{ℕ, zero, suc, ◌<◌}
+use Rattle.std.specs.Prelude.{◌≡◌, Bool, List, ◌⊎◌, length}
 use Rattle.std.proofs.Math.Path.{refl, ap}
 use Rattle.std.proofs.Common.{sym, ◌∙◌, eq-or-lt_of_le, arith, eq-eqb, ne_eqb}
 use Rattle.std.proofs.Math.Bool.{true, false, true≢false}
@@ -15,16 +15,15 @@ use Rattle.std.proofs.Math.Logic.{⊎_elim, inl, inr}
 use Rattle.laws.specs.Bools.{no_true}
 use Rattle.laws.specs.Below.{any_below, any_at, any_fails}
 use Rattle.laws.specs.Span.{Spans, spans_law}
-use Rattle.laws.specs.Tabulate.{tabulate, get_d_tabulate, is_tabulate}
+use Rattle.laws.specs.Tabulate.{get_d_tabulate, is_tabulate}
 use Rattle.store_blocks.specs.Blocks.{block_count}
-use Rattle.store_directory.specs.Scan.{first, size_at, store_ok, directory}
-use Rattle.store_directory.specs.Kind.{kind_at, kind_if, owns_at}
+use Rattle.store_directory.specs.Scan.{first, store_ok, directory}
+use Rattle.store_directory.specs.Kind.{kind_if, owns_at}
 use Rattle.store_directory.specs.DirectoryEntries as entry
 use Rattle.store_directory.specs.Valid.{Owned}
 use Rattle.store_directory.proofs.ValidLaws.{store_valid}
 use Rattle.store_directory.specs.DirectoryLaws.{Listing}
 use Rattle.store_directory.proofs.DirectoryLaws.{listing, kind_owned, kind_free}
-use Rattle.store_directory.specs.declared.kind.Kind.TheVariants.{Unused, First, Later}
 use Rattle.store_directory.specs.declared.Directory.{Directory}
 use Rattle.store_index.specs.declared.Line.{Line}
 use Rattle.store_index.specs.declared.Index.{Index}

@@ -1,14 +1,9 @@
 -- Lines of the index after a write, evaluated at the edges (document 02, One). The old index has every number 9, so that a line that stays
 -- is told from one that is cleared.
 --   nines, nine      the old index, and its lines
-use Rattle.std.specs.Prelude.{ℕ, ◌≡◌, refl, replicate}
-use Rattle.laws.specs.Bits.{bit}
-use Rattle.laws.specs.Span.{spans}
-use Rattle.laws.specs.Unless.{unless}
+use Rattle.std.specs.Prelude.{replicate}
 use Rattle.store_index.specs.declared.Line.{Line}
 use Rattle.store_index.specs.declared.Index.{Index}
-use Rattle.store_index.specs.Index.{unused_line, update_line, line_of}
-use Rattle.store_index.specs.IndexAfter.{cleared_line, line_after}
 
 abbrev pub nines : Index
 nines = record { kinds = replicate 32 9; starts = replicate 32 9; revisions = replicate 32 9; sizes = replicate 32 9 }

@@ -3,9 +3,8 @@
 --   field_data, table_data             the same number in the header, and behind the data
 --   data_size_lem .. entry_count_data  the same sizes, and the same number of entries
 --   header_data, fit_data              checks 2 and 3 are the same
-use Rattle.std.specs.Prelude.{ℕ, ◌+◌, ◌≤◌, ◌≡◌, List, length, get_or}
+use Rattle.std.specs.Prelude.{ℕ, ◌+◌, ◌≤◌, ◌≡◌, List}
 use Rattle.std.proofs.Common.{arith}
-use Rattle.laws.specs.Same.{Same}
 use Rattle.bytes_dwords.specs.Dword.{dword}
 use Rattle.bytes_dwords.proofs.DwordLaws.{dword_same}
 use Rattle.update_header.specs.Fields.{data_size, total_size, table_count, entry_count}

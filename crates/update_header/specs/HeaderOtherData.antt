@@ -2,12 +2,8 @@
 -- and checks.
 --   OtherData                          r is s with other data bytes
 use Rattle.std.specs.Prelude.{ℕ, ◌+◌, ◌≤◌, ◌≡◌, List, length, get_or}
-use Rattle.std.proofs.Common.{arith}
 use Rattle.laws.specs.Same.{Same}
-use Rattle.bytes_dwords.specs.Dword.{dword}
-use Rattle.bytes_dwords.proofs.DwordLaws.{dword_same}
-use Rattle.update_header.specs.Fields.{data_size, total_size, table_count, entry_count}
-use Rattle.update_header.specs.Checks.{header_ok, sizes_fit}
+use Rattle.update_header.specs.Fields.{data_size}
 
 pub record OtherData (s r : List ℕ) : Type 0 where
   pub long : length s ≡ length r

@@ -4,7 +4,7 @@
 --   meets          the nested scan of pairs, as `search` takes it
 --   apartness      the tests of two readings, as `search` takes them
 --   one_pair, headers_apart_lem  two updates that have the header's pair alone, by the readings of their headers
-use Rattle.std.specs.Prelude.{ℕ, ◌+◌, ◌%◌, ◌<◌, ◌≡◌, Bool, not, ◌&&◌, List, ◌↔◌, eqb}
+use Rattle.std.specs.Prelude.{ℕ, ◌+◌, ◌%◌, ◌<◌, ◌≡◌, Bool, not, List, ◌↔◌, eqb}
 use Rattle.std.proofs.Math.Path.{refl, sym, ap}
 use Rattle.std.proofs.Common.{◌∙◌, arith}
 use Rattle.std.proofs.Math.Bool.{true, false}

@@ -16,13 +16,13 @@ use Rattle.laws.specs.Unless.{unless}
 use Rattle.bytes_dwords.specs.Dword.{dword}
 use Rattle.bytes_dwords.proofs.DwordLaws.{dword_same}
 use Rattle.update_header.specs.Fields.{revision, data_size, total_size, table_count, entry_count}
-use Rattle.update_sizes.specs.Sizes.{sizes_ok, blocks_of, entries_of, entry_offset}
+use Rattle.update_sizes.specs.Sizes.{sizes_ok, blocks_of, entry_offset}
 use Rattle.update_verdict.specs.Sums.{header_sum, entry_ok, table, sums_ok}
 use Rattle.update_header.specs.Checks.{header_ok, sizes_fit}
 use Rattle.update_verdict.specs.Verdict.{verdict}
 use Rattle.update_header.specs.Inside.{Inside, inside}
 use Rattle.update_sizes.proofs.SizeLaws.{sizes_alike}
-use Rattle.update_verdict.specs.VerdictLaws.{Judged, judged, good_size}
+use Rattle.update_verdict.specs.VerdictLaws.{judged, good_size}
 use Rattle.update_verdict.specs.declared.Verdict.{Verdict}
 use Rattle.update_verdict.specs.declared.Verdict.TheVariants.{Good, BadHeader, BadSum}
 

@@ -1,6 +1,6 @@
 -- "Encrypted update data is never interpreted" (document 01, "What is built"): of the data only the sum counts.
 --   verdict_data     bytes that differ in the data alone, and whose T bytes have the same sum, have the same verdict
-use Rattle.std.specs.Prelude.{◌≡◌, ℕ, ◌+◌, ◌-◌, ◌*◌, List, take, drop}
+use Rattle.std.specs.Prelude.{◌≡◌, ℕ, ◌+◌, ◌*◌, List, take, drop}
 use Rattle.std.proofs.Common.{sym, ◌∙◌, arith, length-drop, get_or-drop, ext_get_or}
 use Rattle.laws.specs.Below.{all_cong}
 use Rattle.laws.specs.Unless.{unless}

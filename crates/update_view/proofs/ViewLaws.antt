@@ -10,7 +10,7 @@ use Rattle.std.proofs.Math.ListN.{length-drop}
 use borrow.Author.Tests.{lt-ltb}
 use Rattle.laws.specs.Same.{Same}
 use Rattle.bytes_dwords.specs.Dword.{dword}
-use Rattle.update_header.specs.Fields.{version, revision, date, signature, checksum, loader_version, flags, data_size}
+use Rattle.update_header.specs.Fields.{data_size}
 use Rattle.update_header.specs.DataPart.{data_part}
 use Rattle.update_header.specs.DataPartLaws.{part_same}
 use Rattle.update_verdict.specs.Verdict.{verdict}

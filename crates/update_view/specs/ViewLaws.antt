@@ -1,21 +1,11 @@
 -- Laws of views.
 --   Seen, seen      the view of a good update is that update: its verdict, fields, sizes and data
-use Rattle.std.specs.Prelude.{ℕ, ◌+◌, ◌≤◌, ◌≡◌, refl, true, List, length, get_or, take, drop}
-use Rattle.std.proofs.Math.Path.{sym}
-use Rattle.std.proofs.Common.{ap, ◌∙◌, true≢false, arith, get_or-take, length-take-le}
-use Rattle.std.proofs.Math.ListN.{length-drop}
-use borrow.Author.Tests.{lt-ltb}
-use Rattle.laws.specs.Same.{Same}
-use Rattle.bytes_dwords.specs.Dword.{dword}
-use Rattle.update_header.specs.Fields.{version, revision, date, signature, checksum, loader_version, flags, data_size}
+use Rattle.std.specs.Prelude.{ℕ, ◌≡◌, true, List, length}
+use Rattle.update_header.specs.Fields.{version, revision, date, signature, checksum, loader_version, flags}
 use Rattle.update_header.specs.DataPart.{data_part}
-use Rattle.update_header.specs.DataPartLaws.{part_same}
 use Rattle.update_verdict.specs.Verdict.{verdict}
-use Rattle.update_verdict.specs.VerdictLaws.{judged, good_size}
-use Rattle.update_verdict.specs.VerdictLocal.{field_local, data_local, verdict_local}
-use Rattle.update_verdict.specs.declared.Verdict.{Verdict}
-use Rattle.update_verdict.specs.declared.Verdict.TheVariants.{Good, BadHeader, BadSum}
-use Rattle.update_view.specs.View.{viewed_by, viewed, is_good, is_update, holds_bytes}
+use Rattle.update_verdict.specs.declared.Verdict.TheVariants.{Good}
+use Rattle.update_view.specs.View.{viewed, holds_bytes}
 
 -- the view of a good update is that update, with its fields, its T and its data
 pub record Seen (s : List ℕ) (t d n k : ℕ) : Type 0 where

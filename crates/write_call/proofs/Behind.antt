@@ -5,7 +5,7 @@
 --   behind_ignored    the answers are equal, and the bytes afterwards
 use Rattle.std.specs.Prelude.{ℕ, ◌*◌, ◌-◌, ◌≤◌, max, ◌≡◌, Bool, true, false, List, length, get_or, ltb}
 use Rattle.std.proofs.Math.Path.{refl, fun_ext}
-use Rattle.std.proofs.Common.{sym, ap, ◌∙◌, arith, ltb-true}
+use Rattle.std.proofs.Common.{sym, ap, arith, ltb-true}
 use Rattle.laws.specs.Tabulate.{tabulate}
 use Rattle.laws.specs.Bools.{bool_same}
 use Rattle.laws.specs.Below.{any_cong}

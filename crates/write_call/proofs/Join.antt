@@ -17,7 +17,6 @@ use Rattle.store_blocks.specs.Blocks.{from_block, block_count}
 use Rattle.store_directory.specs.Scan.{first, store_ok, directory}
 use Rattle.store_directory.specs.Kind.{kind_at}
 use Rattle.store_directory.specs.Valid.{Owned}
-use Rattle.store_directory.specs.DirectoryEntries.{start_of}
 use Rattle.store_directory.specs.DirectoryLaws.{Listing}
 use Rattle.store_directory.proofs.DirectoryLaws.{listing, kind_free}
 use Rattle.store_directory.specs.declared.kind.Kind.TheVariants.{Unused}

@@ -12,7 +12,7 @@ use Rattle.laws.specs.Orders.{impossible}
 use Rattle.laws.specs.Below.{any_below}
 use Rattle.laws.specs.Least.{Pick, nowhere, at}
 use Rattle.laws.specs.Unless.{unless, unless_all}
-use Rattle.update_header.specs.Fields.{revision, total_size}
+use Rattle.update_header.specs.Fields.{revision}
 use Rattle.update_verdict.specs.Verdict.{verdict}
 use Rattle.update_verdict.specs.declared.Verdict.{Verdict}
 use Rattle.update_verdict.specs.declared.Verdict.TheVariants.{Good, BadHeader, BadSum}

@@ -18,7 +18,7 @@ use Rattle.laws.specs.Unless.{unless}
 use Rattle.update_header.specs.Fields.{total_size}
 use Rattle.update_sizes.specs.Sizes.{blocks_of}
 use Rattle.store_blocks.specs.Blocks.{block_count}
-use Rattle.store_directory.specs.Scan.{size_at, first, store_ok, directory}
+use Rattle.store_directory.specs.Scan.{size_at, first, directory}
 use Rattle.store_directory.specs.Valid.{Owned}
 use Rattle.store_directory.proofs.ValidLaws.{store_valid}
 use Rattle.store_directory.specs.DirectoryEntries.{start_of, size_of}
@@ -35,7 +35,7 @@ use Rattle.write_outcome.proofs.EmptiedEntries.{entries_of_lem, marked_at}
 use Rattle.write_plan.specs.declared.Plan.{Plan}
 use Rattle.write_plan.specs.declared.Plan.TheVariants.{Run}
 use Rattle.write_plan.specs.CandidateMarks.{shares_entry}
-use Rattle.write_plan.specs.RightMarks.{Shared, Marks}
+use Rattle.write_plan.specs.RightMarks.{Marks}
 use Rattle.write_call.specs.Write.{touched_at, emptied_at, good_plan, write_plan}
 use Rattle.write_call.specs.Planned.{plan_run}
 use Rattle.write_call.specs.Storing.{Storing, Storable}

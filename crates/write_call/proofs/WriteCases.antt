@@ -18,7 +18,6 @@ use Rattle.call_answers.specs.declared.answer.Answer.{Answer}
 use Rattle.write_plan.specs.declared.Plan.{Plan}
 use Rattle.write_plan.specs.declared.Plan.TheVariants.{Run, Refuse}
 use Rattle.write_call.specs.Write.{emptied_at, write_plan, written, answered, write_answer, bytes_after, write_bytes}
-use Rattle.write_call.specs.Demand.{Passes, Demand3}
 use Rattle.write_call.proofs.Theorem.{demanded}
 use Rattle.write_call.specs.WriteCases.{Meant}
 

@@ -1,7 +1,7 @@
 -- How many updates are lost, counted no further than a limit.
 --   losing       the loop that counts up to a limit, as `search` takes it
 --   lost_same    how many are lost doesn't depend on the second mark
-use Rattle.std.specs.Prelude.{ℕ, ◌+◌, ◌-◌, ◌<◌, ◌≤◌, ◌≡◌, refl, Bool, true, cond, List, [], ltb}
+use Rattle.std.specs.Prelude.{ℕ, ◌+◌, ◌-◌, ◌<◌, ◌≤◌, ◌≡◌, refl, Bool, true, List, []}
 use Rattle.std.proofs.Math.Path.{sym}
 use Rattle.std.proofs.Common.{◌∙◌, lt-ltb, le-ltb}
 use Rattle.std.proofs.Math.Logic.{⊎_elim}

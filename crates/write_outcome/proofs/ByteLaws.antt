@@ -5,9 +5,9 @@
 --   outcome_length                     an outcome is as long as the old store
 --   outcome_run, outcome_out           its byte in the run, and outside it
 --   outcome_emptied, outcome_kept      outside the run: in an emptied update, and elsewhere
-use Rattle.std.specs.Prelude.{ℕ, zero, suc, ◌+◌, ◌*◌, ◌-◌, ◌/◌, ◌<◌, ◌≤◌, ◌≡◌, refl, Bool, ◌&&◌, List, ◌⊎◌, length, get_or}
+use Rattle.std.specs.Prelude.{ℕ, suc, ◌+◌, ◌*◌, ◌-◌, ◌/◌, ◌<◌, ◌≤◌, ◌≡◌, refl, Bool, ◌&&◌, List, ◌⊎◌, length, get_or}
 use Rattle.std.proofs.Math.Path.{sym}
-use Rattle.std.proofs.Common.{ap, ◌∙◌, inl, inr, not-suc-le-zero, add-zero, arith}
+use Rattle.std.proofs.Common.{◌∙◌, inl, inr, arith}
 use Rattle.std.proofs.Math.Bool.{true, false, and-false}
 use Rattle.laws.specs.Span.{spans, spans_law}
 use Rattle.laws.specs.Bools.{and_parts, no_true}

@@ -15,7 +15,7 @@ use Rattle.std.proofs.Math.Seq.{ext_get_or}
 use Rattle.laws.specs.Bools.{no_true}
 use Rattle.laws.specs.Orders.{le_or_lt}
 use Rattle.laws.specs.Unless.{unless}
-use Rattle.laws.specs.Tabulate.{tabulate, length_tabulate, get_d_tabulate}
+use Rattle.laws.specs.Tabulate.{length_tabulate, get_d_tabulate}
 use Rattle.bytes_copy.specs.Paste.{put_at, fill_at, put_long, put_low, put_mid, put_high, fill_long, fill_out, fill_mid}
 use Rattle.update_sizes.specs.Sizes.{blocks_of}
 use Rattle.store_directory.specs.Scan.{size_at, first}

@@ -5,7 +5,7 @@
 --   emptying         the two ways of `empty_if`, as `search` takes them
 --   marking          the loop over the entries, as `search` takes it
 --   all_written      the steps of a write, from what each call leaves
-use Rattle.std.specs.Prelude.{◌-◌, ℕ, suc, ◌+◌, ◌*◌, ◌<◌, ◌≤◌, ◌≡◌, refl, Bool, ◌&&◌, List, length, eqb}
+use Rattle.std.specs.Prelude.{◌-◌, ℕ, suc, ◌+◌, ◌*◌, ◌<◌, ◌≤◌, ◌≡◌, refl, Bool, List, length, eqb}
 use Rattle.std.proofs.Common.{sym, ◌∙◌, ⊎_elim, eq-or-lt_of_le, arith}
 use Rattle.std.proofs.Math.Path.{ap}
 use Rattle.std.proofs.Math.Bool.{true, false, or-false, or-true}
@@ -19,7 +19,6 @@ use Rattle.laws.specs.Unless.{unless}
 use Rattle.bytes_copy.specs.Paste.{put_at, fill_at}
 use Rattle.update_sizes.specs.Sizes.{blocks_of}
 use Rattle.store_blocks.specs.Blocks.{block_count}
-use Rattle.store_directory.specs.Scan.{size_at, first}
 use Rattle.store_directory.specs.DirectoryLaws.{Listing}
 use Rattle.store_directory.specs.declared.Directory.{Directory}
 use Rattle.write_outcome.specs.OutcomeBytes.{outcome_bytes}

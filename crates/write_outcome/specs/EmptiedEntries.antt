@@ -3,25 +3,13 @@
 --   marked           the first blocks of the marked entries
 --   Entries          the first n entries are updates of the store, and lie in it
 --   empty_if         an update filled with FFh, if it is marked
-use Rattle.std.specs.Prelude.{◌-◌, ℕ, suc, ◌+◌, ◌*◌, ◌<◌, ◌≤◌, ◌≡◌, refl, Bool, ◌&&◌, List, length, eqb}
-use Rattle.std.proofs.Common.{sym, ◌∙◌, ⊎_elim, eq-or-lt_of_le, arith}
-use Rattle.std.proofs.Math.Path.{ap}
-use Rattle.std.proofs.Math.Bool.{true, false, or-false, or-true}
-use Rattle.std.proofs.Math.Numerals.{add-one}
+use Rattle.std.specs.Prelude.{ℕ, ◌+◌, ◌*◌, ◌<◌, ◌≤◌, ◌≡◌, Bool, ◌&&◌, List, length, eqb}
+use Rattle.std.proofs.Math.Bool.{true, false}
 use Rattle.std.proofs.Math.ListN.{get_or}
-use borrow.Author.Tests.{eq-eqb, ne_eqb, eqb-true}
-use Rattle.laws.specs.Bools.{and_parts, and_made, bool_same}
-use Rattle.laws.specs.Below.{any_below, any_at, any_stop}
-use Rattle.laws.specs.Orders.{le_or_lt}
+use Rattle.laws.specs.Below.{any_below}
 use Rattle.laws.specs.Unless.{unless}
-use Rattle.bytes_copy.specs.Paste.{put_at, fill_at}
-use Rattle.update_sizes.specs.Sizes.{blocks_of}
-use Rattle.store_blocks.specs.Blocks.{block_count}
+use Rattle.bytes_copy.specs.Paste.{fill_at}
 use Rattle.store_directory.specs.Scan.{size_at, first}
-use Rattle.store_directory.specs.DirectoryLaws.{Listing}
-use Rattle.store_directory.specs.declared.Directory.{Directory}
-use Rattle.write_outcome.specs.OutcomeBytes.{outcome_bytes}
-use Rattle.write_outcome.specs.Cleared.{cleared}
 
 -- entry i begins at block b and is marked
 unfoldable pub marked_entry : List ℕ → List Bool → ℕ → ℕ → Bool

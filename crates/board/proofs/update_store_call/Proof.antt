@@ -8,34 +8,34 @@ use Rattle.board_call_words.specs.Words.{ax_of, call_words}
 use Rattle.board.proofs.update_store_call.Statement.{statement}
 use Rattle.board.proofs.update_store_call.Tie as tie
 
-returns : tie.Need-returns
+returns-then-function-ne-FUNCTION : tie.Need-returns-then-function-ne-FUNCTION
 unfolding unknown ax_of
-returns c =
-    let e = other_function _ (unknown _) c.before.before.if1.true refl in
+returns-then-function-ne-FUNCTION c =
+    let e = other_function _ (unknown _) c.before.before.if-function-ne-FUNCTION.true refl in
     (ap (λ (r : Reply). ax_of r.answer) e.0, (c.unknown_words.ensures ∙ ap call_words e.0, (e.1.0, e.1.1)))
 
-returns-2 : tie.Need-returns-2
+returns-then-sub_function-gt-READ : tie.Need-returns-then-sub_function-gt-READ
 unfolding unknown ax_of
-returns-2 c =
-    let e = above_sub _ c.before.before.before.if1.false (unknown _) c.before.before.if2.true refl in
-    (ap (λ (r : Reply). ax_of r.answer) e.0, (c.unknown-words2.ensures ∙ ap call_words e.0, (e.1.0, e.1.1)))
+returns-then-sub_function-gt-READ c =
+    let e = above_sub _ c.before.before.before.if-function-ne-FUNCTION.false (unknown _) c.before.before.if-sub_function-gt-READ.true refl in
+    (ap (λ (r : Reply). ax_of r.answer) e.0, (c.unknown_words-then-sub_function-gt-READ.ensures ∙ ap call_words e.0, (e.1.0, e.1.1)))
 
-returns-3 : tie.Need-returns-3
-returns-3 c =
-    let e = c.before.before.before.before.before.before.before.call.ensures in
-    (c.ax.ensures ∙ ap (λ (r : Reply). ax_of r.answer) e.0, (c.before.call-words.ensures ∙ ap call_words e.0, (e.1.0, e.1.1.0)))
+returns : tie.Need-returns
+returns c =
+    let e = c.before.before.before.before.before.before.before.call-reply.ensures in
+    (c.ax.ensures ∙ ap (λ (r : Reply). ax_of r.answer) e.0, (c.before.call_words.ensures ∙ ap call_words e.0, (e.1.0, e.1.1.0)))
 
 pub update_store_call_spec : {M : Type 1} → statement M
 update_store_call_spec =
     tie.close
     (tie.spec
     (λ c κs. tt)
-    returns
+    returns-then-function-ne-FUNCTION
     (λ c κs. tt)
-    returns-2
+    returns-then-sub_function-gt-READ
     (λ c κs. tt)
-    (λ c κs. c.before.before.before.before.before.call.ensures.1.1.1.codes)
-    (λ c κs. c.before.before.before.before.before.before.call.ensures.1.1.1.codes)
+    (λ c κs. c.before.before.before.before.before.call-reply.ensures.1.1.1.codes)
+    (λ c κs. c.before.before.before.before.before.before.call-reply.ensures.1.1.1.codes)
     (λ c. omega arith)
     (λ c. omega arith)
-    returns-3)
+    returns)

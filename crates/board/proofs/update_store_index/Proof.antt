@@ -1,5 +1,5 @@
 -- `board::update_store_index` meets its contract: the codes of the index call, laid out.
-use mathlib.Core.Path.{ap, ◌∙◌}
+use mathlib.Core.Path.{ap}
 use native.Mathlib.Omega.{arith}
 use Rattle.board_index_words.specs.IndexAnswerWords.{codes_ax}
 use Rattle.board_index_words.specs.IndexAnswerLaws.{codes_row}
@@ -11,8 +11,8 @@ unfolding codes_ax
 returns c =
     let u = c.before.before in
     let k = u.before.before in
-    let e = k.before.put-index.ensures in
-    (ap codes_ax e.0, (e.1, codes_row _ _ _ _ e.0 k.index-case.ensures u.put.ensures))
+    let e = k.before.put_index-codes.ensures in
+    (ap codes_ax e.0, (e.1, codes_row _ _ _ _ e.0 k.index_case-case.ensures u.put.ensures))
 
 pub update_store_index_spec : {M : Type 1} → statement M
 update_store_index_spec =

@@ -5,13 +5,13 @@ use Rattle.board_load_words.specs.LoadWords.{load_ax, load_words}
 use Rattle.board.proofs.update_store_load_indexed.Statement.{statement}
 use Rattle.board.proofs.update_store_load_indexed.Tie as tie
 
-load-words-requires : tie.Need-load-words-requires
-load-words-requires c κs = indexed_inside _ _ _ _ _ _ c.before.choose-by.ensures
+load_words-requires : tie.Need-load_words-requires
+load_words-requires c κs = indexed_inside _ _ _ _ _ _ c.before.choose_by-choice.ensures
 
 returns : tie.Need-returns
 returns c =
-    let e = c.before.before.before.choose-by.ensures in
-    (c.load-ax.ensures ∙ ap load_ax e, c.before.load-words.ensures ∙ ap (load_words _ _) e)
+    let e = c.before.before.before.choose_by-choice.ensures in
+    (c.load_ax.ensures ∙ ap load_ax e, c.before.load_words.ensures ∙ ap (load_words _ _) e)
 
 pub update_store_load_indexed_spec : {M : Type 1} → statement M
-update_store_load_indexed_spec = tie.close (tie.spec (λ c κs. tt) load-words-requires (λ c κs. tt) returns)
+update_store_load_indexed_spec = tie.close (tie.spec (λ c κs. tt) load_words-requires (λ c κs. tt) returns)

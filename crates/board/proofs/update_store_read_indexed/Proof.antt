@@ -12,26 +12,26 @@ use Rattle.board_call_words.specs.Words.{ax_of, answer_words}
 use Rattle.board.proofs.update_store_read_indexed.Statement.{statement}
 use Rattle.board.proofs.update_store_read_indexed.Tie as tie
 
-copy-planned-requires : tie.Need-copy-planned-requires
-copy-planned-requires c κs = indexed_copyable _ _ _ _ _ c.before.indexed-plan.ensures
+copy_planned-requires : tie.Need-copy_planned-requires
+copy_planned-requires c κs = indexed_copyable _ _ _ _ _ c.before.indexed_plan-plan.ensures
 
-plan-words-requires : tie.Need-plan-words-requires
-plan-words-requires c κs =
+plan_words-requires : tie.Need-plan_words-requires
+plan_words-requires c κs =
     let p = c.before.before.before.before.before in
-    rw p.indexed-plan.ensures (indexed_plan_coded _ _ _ _)
+    rw p.indexed_plan-plan.ensures (indexed_plan_coded _ _ _ _)
 
-same_length : tie.Need-same-length
-same_length c =
+shape_of-destination : tie.Need-shape_of-destination
+shape_of-destination c =
     let d = c.before.before.before.before.before in
-    ap length d.copy-planned.ensures.1 ∙ copied_long _ _ _ _ (indexed_copyable _ _ _ _ _ d.before.before.indexed-plan.ensures)
+    ap length d.copy_planned.ensures.1 ∙ copied_long _ _ _ _ (indexed_copyable _ _ _ _ _ d.before.before.indexed_plan-plan.ensures)
 
 returns : tie.Need-returns
 unfolding indexed_answer indexed_bytes
 returns c =
     let d = c.before.before.before.before.before in
-    let e = d.before.before.indexed-plan.ensures in (
-      c.plan-ax.ensures ∙ ap (λ (q : ReadPlan). ax_of (answered q)) e,
-      (c.before.plan-words.ensures ∙ ap (λ (q : ReadPlan). answer_words (answered q) false) e, d.copy-planned.ensures.1 ∙ ap (copied _ _ _) e),
+    let e = d.before.before.indexed_plan-plan.ensures in (
+      c.plan_ax.ensures ∙ ap (λ (q : ReadPlan). ax_of (answered q)) e,
+      (c.before.plan_words.ensures ∙ ap (λ (q : ReadPlan). answer_words (answered q) false) e, d.copy_planned.ensures.1 ∙ ap (copied _ _ _) e),
     )
 
 pub update_store_read_indexed_spec : {M : Type 1} → statement M
@@ -39,8 +39,8 @@ update_store_read_indexed_spec =
     tie.close
     (tie.spec
     (λ c κs. tt)
-    copy-planned-requires
-    plan-words-requires
+    copy_planned-requires
+    plan_words-requires
     (λ c κs. tt)
-    same_length
+    shape_of-destination
     returns)

@@ -1,5 +1,4 @@
 -- `load_indexed::choose` meets its contract: the columns of the index decide.
-use mathlib.Core.Path.{◌≡◌}
 use Rattle.load_indexed.proofs.choose.Statement.{statement}
 use Rattle.load_indexed.proofs.choose.Tie as tie
 

@@ -1,8 +1,7 @@
 -- `store_index::put_index` meets its contract. The loop's invariant: the lines of the updates passed stand, and the others are unused.
-use mathlib.Core.Path.{◌≡◌, ap, ◌∙◌}
+use mathlib.Core.Path.{ap, ◌∙◌}
 use Prim.Native.Nat.{◌≤◌, ◌-◌}
 use native.Mathlib.Omega.{arith}
-use borrow.Author.Rules.{rules}
 use Rattle.update_header.specs.Fields.{revision}
 use Rattle.store_directory.proofs.StoreLaws.{directory_ok, directory_few}
 use Rattle.store_index.specs.IndexLines.{LinesTo}

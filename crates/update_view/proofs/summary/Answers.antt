@@ -1,6 +1,4 @@
 -- `update_view::summary` meets its contract: each number is that of the view, and the view holds bytes exactly if an update begins the slice.
-use Rattle.std.proofs.Common.{◌∙◌}
-use Rattle.update_view.specs.View.{holds_bytes}
 use Rattle.update_view.proofs.ViewLaws.{holds_update}
 use Rattle.update_view.proofs.summary.Goals as goal
 

@@ -1,5 +1,4 @@
 -- `call_indexed::read::line_plan` meets its contract: two branches.
-use mathlib.Core.Path.{◌∙◌}
 use borrow.Author.Rules.{rules}
 use borrow.Author.Tests.{eq-eqb, ne_eqb}
 use Rattle.laws.specs.Unless.{unless}

@@ -1,7 +1,7 @@
 -- `store_index::after::clear_lines` meets its contract. The loop's invariant: the lines of the emptied blocks passed are unused, and the bits
 -- ahead are left.
 use mathlib.Core.Path.{◌≡◌, refl}
-use Prim.Native.Nat.{◌/◌, ◌^◌, ◌<◌, ◌-◌, ◌≤◌}
+use Prim.Native.Nat.{◌/◌, ◌^◌, ◌-◌, ◌≤◌}
 use native.Mathlib.Omega.{arith}
 use Rattle.store_index.specs.AfterLines.{Cleared}
 use Rattle.store_index.proofs.AfterLineLaws.{low_few, clear_none, clear_left, clear_inside, clear_set, clear_unset, clear_done}

@@ -1,6 +1,5 @@
 -- `store_index::lines::put_line` meets its contract: four numbers, one in each column.
 use native.Mathlib.Omega.{arith}
-use borrow.Author.Rules.{rules}
 use Rattle.store_index.proofs.UpdateLineLaws.{put_line_lem}
 use Rattle.store_index.proofs.lines.put_line.Statement.{statement}
 use Rattle.store_index.proofs.lines.put_line.Tie as tie

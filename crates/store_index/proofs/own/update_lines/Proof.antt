@@ -1,8 +1,6 @@
 -- `store_index::own::update_lines` meets its contract. The loop's invariant: nothing differs exactly if the lines passed are the update's.
-use mathlib.Core.Path.{◌≡◌}
 use Prim.Native.Nat.{◌≤◌, ◌-◌}
 use native.Mathlib.Omega.{arith}
-use borrow.Author.Rules.{rules}
 use Rattle.store_index.specs.IndexColumns.{index_in}
 use Rattle.store_index.specs.OwnLines.{Gathered, UpdateFrom}
 use Rattle.store_index.specs.OwnLineLaws.{update_none, update_more, update_done}
