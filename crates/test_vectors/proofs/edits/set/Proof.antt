@@ -1,5 +1,5 @@
 -- `test_vectors::edits::set` meets its contract: a return at each test, then the part that is put or filled.
-use Rattle.std.proofs.Common.{arith, rules}
+use Rattle.std.proofs.Common.{rules}
 use Rattle.test_vectors.specs.EditLaws.{no_part, too_many, put_set, fill_set}
 use Rattle.test_vectors.proofs.edits.set.Statement.{statement}
 use Rattle.test_vectors.proofs.edits.set.Tie as tie
