@@ -1,6 +1,6 @@
 -- The program's fold finds the best outcome.
 --   best_law     what `best` gives is the first of the legal outcomes that empty the fewest, or none where none is legal
-use Rattle.std.specs.Prelude.{◌≡◌, ℕ, zero, suc, ◌+◌, ◌*◌, ◌/◌, ◌%◌, ◌<◌, ◌≤◌, Bool, true, false, cond, not, ◌&&◌, ◌⊎◌, nat_le}
+use Rattle.std.specs.Prelude.{◌≡◌, ℕ, zero, suc, ◌+◌, ◌*◌, ◌/◌, ◌%◌, ◌<◌, ◌≤◌, Bool, true, false, cond, not, ◌&&◌, nat_le}
 use Rattle.std.proofs.Math.Path.{refl}
 use Rattle.std.proofs.Common.{sym, ◌∙◌, true≢false, inr, eq-or-lt_of_le, le_of_suc-le-suc, not-suc-le-zero, leb-true, leb-false}
 use Rattle.std.proofs.Math.Logic.{inl, ⊎_elim}

@@ -9,10 +9,12 @@ mod set_blocks;
 mod tally;
 mod trial;
 
-fn main() {
-    let mut store_space = io::large_buffer();
-    let mut wanted_space = io::large_buffer();
+use std::io;
+
+fn main(rt: HostRuntime) -> io::Result<()> {
+    let mut store_space = [0u8; 65536];
+    let mut wanted_space = [0u8; 65536];
     let store: &mut [u8] = &mut store_space;
     let wanted: &mut [u8] = &mut wanted_space;
-    tally::write(tally::all(store, wanted));
+    tally::write(&rt, tally::all(store, wanted))
 }

@@ -6,6 +6,8 @@ use crate::layout::Layout;
 use crate::trial::Seen;
 use crate::{layout, make, trial};
 use call_answers::code;
+use std::io;
+use std::io::Print;
 
 #[derive(Clone, Copy)]
 pub struct Tally {
@@ -165,7 +167,7 @@ fn sizes(
 
 // All stores tried with a candidate of `k` times 1,024 bytes.
 fn tried(tally: Tally, store: &mut [u8], wanted: &mut [u8], k: u32) -> Tally {
-    let mut space = io::large_buffer();
+    let mut space = [0u8; 65536];
     let candidate: &mut [u8] = &mut space;
     if k < 7 {
         make::candidate(candidate, k * 1024);
@@ -186,21 +188,21 @@ pub fn all(store: &mut [u8], wanted: &mut [u8]) -> Tally {
     u
 }
 
-fn line(label: &[u8], n: u32) {
-    test_output::number(label, n);
-    test_output::text(b"\n");
+fn line<P: Print>(out: &P, label: &[u8], n: u32) -> io::Result<()> {
+    test_output::number(out, label, n)?;
+    test_output::text(out, b"\n")
 }
 
-pub fn write(t: Tally) {
+pub fn write<P: Print>(out: &P, t: Tally) -> io::Result<()> {
     let emptied = t.emptied;
-    line(b"writes ", t.writes);
-    line(b"refused with AL 4 ", t.both_marks);
-    line(b"refused with AL 5 ", t.full);
-    line(b"written ", t.written);
-    line(b"emptied 0: ", emptied[0]);
-    line(b"emptied 1: ", emptied[1]);
-    line(b"emptied 2: ", emptied[2]);
-    line(b"emptied 3: ", emptied[3]);
-    line(b"emptied 4: ", emptied[4]);
-    line(b"differences ", t.differences);
+    line(out, b"writes ", t.writes)?;
+    line(out, b"refused with AL 4 ", t.both_marks)?;
+    line(out, b"refused with AL 5 ", t.full)?;
+    line(out, b"written ", t.written)?;
+    line(out, b"emptied 0: ", emptied[0])?;
+    line(out, b"emptied 1: ", emptied[1])?;
+    line(out, b"emptied 2: ", emptied[2])?;
+    line(out, b"emptied 3: ", emptied[3])?;
+    line(out, b"emptied 4: ", emptied[4])?;
+    line(out, b"differences ", t.differences)
 }

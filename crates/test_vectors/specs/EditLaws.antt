@@ -4,8 +4,8 @@
 --   put_set, fill_set                  those on which the part is set
 --   Made                               the state and the three buffers after the step are those of the definitions
 --   store_set .. none_set              so they are: an arm for each buffer, for no buffer, and for operands that aren't good
-use Rattle.std.specs.Prelude.{◌≡◌, ℕ, ◌+◌, ◌<◌, ◌≤◌, Bool, true, false, List, length, set, replicate, ◌≢◌, nat_le, slice_set, refl}
-use Rattle.std.proofs.Common.{sym, arith}
+use Rattle.std.specs.Prelude.{◌≡◌, ℕ, ◌+◌, ◌<◌, ◌≤◌, Bool, true, false, List, length, replicate, ◌≢◌, nat_le, slice_set, refl}
+use Rattle.std.proofs.Common.{arith}
 use Rattle.std.proofs.Math.Bool.{and-false}
 use Rattle.std.proofs.Math.Numerals.{add-one}
 use Rattle.std.proofs.Math.ListN.{length-replicate, get_or-replicate}

@@ -13,7 +13,6 @@ use Rattle.call_indexed.specs.IndexCall.{index_codes}
 use Rattle.board_index_words.specs.IndexAnswerWords.{codes_words, codes_ax, carried_words}
 use Rattle.test_vectors.specs.declared.indexes.AfterOperands.{AfterOperands}
 use Rattle.test_vectors.specs.declared.lines.IndexLine.{IndexLine}
-use Rattle.test_vectors.specs.declared.lines.Line.{Line}
 use Rattle.test_vectors.specs.Digest.{digest, index_digest}
 
 unfoldable pub made_index : List ℕ → List (List ℕ)

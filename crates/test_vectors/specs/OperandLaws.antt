@@ -1,7 +1,7 @@
 -- Laws of the operands.
 --   good_place                               the place of good operands is one of the 128
 --   dwords_none, dwords_more, dwords_done    the loop that reads numbers: xs has the first i of them in front
-use Rattle.std.specs.Prelude.{◌≡◌, ℕ, ◌+◌, ◌*◌, ◌<◌, ◌≤◌, Bool, true, ◌&&◌, List, [], length, take, nat_lt, slice_index, slice_set, refl}
+use Rattle.std.specs.Prelude.{◌≡◌, ℕ, ◌+◌, ◌*◌, ◌<◌, ◌≤◌, Bool, true, List, [], length, take, nat_lt, slice_index, slice_set, refl}
 use Rattle.std.proofs.Common.{sym, ◌∙◌, add-one, arith, take_all, ltb-true}
 use Rattle.std.proofs.Math.Seq.{take-suc-set}
 use Rattle.laws.specs.Bools.{and_parts}

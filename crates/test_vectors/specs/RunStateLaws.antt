@@ -2,11 +2,10 @@
 --   begun_within .. called_within    there is room for the lengths where there was
 --   length_within, lengths_within    and after a step that sets them
 --   kept_within                      these, as `search` takes them
-use Rattle.std.specs.Prelude.{◌≡◌, ℕ, ◌≤◌, Bool, true, false, cond, ◌&&◌, ◌==◌, nat_le}
+use Rattle.std.specs.Prelude.{◌≡◌, ℕ, Bool, true, false, cond, ◌&&◌, ◌==◌, nat_le}
 use Rattle.std.proofs.Math.Path.{refl}
-use Rattle.std.proofs.Common.{subst, sym, arith}
+use Rattle.std.proofs.Common.{arith}
 use borrow.Author.Tests.{leb-true}
-use Rattle.laws.specs.Bools.{and_parts}
 use Rattle.test_vectors.specs.declared.state.State.{State}
 use Rattle.test_vectors.specs.RunState.{store_room, candidate_room, destination_room, list_room, state, begun, judged, called, with_length, with_lengths, Within}
 

@@ -1,5 +1,5 @@
 // The steps that make a call. Each writes a line.
-ghost use Rattle.std.specs.Prelude.{◌≡◌, ◌≤◌, ◌++◌, length, take, drop};
+ghost use Rattle.std.specs.Prelude.{◌≡◌, ◌≤◌, ◌++◌, length, take, drop, IfOk};
 ghost use Rattle.test_vectors.specs.RunState.{Within};
 ghost use Rattle.test_vectors.specs.Operands.{call_operands, load_operands};
 ghost use Rattle.test_vectors.specs.CallLine.{buffers, parts, store_after, destination_after, call_line, load_line};
@@ -8,6 +8,8 @@ use crate::buffers::{Candidate, Destination, Platforms, Signatures, Store};
 use crate::lines::Line;
 use crate::state::State;
 use crate::{digest, input, lines, state};
+use std::io;
+use std::io::{Print, Read};
 
 // The operands of one of the four calls.
 #[derive(Clone, Copy)]
@@ -160,37 +162,46 @@ fn load_with(s: State, l: LoadOperands, store: &[u8], destination: &[u8]) -> Lin
     load_line(l, &store[..i], &destination[..n])
 }
 
-pub fn call(
+pub fn call<P: Print, R: Read>(
+    out: &P,
+    reader: &mut R,
     s: State,
     store: &mut Store,
     candidate: &Candidate,
     destination: &mut Destination,
     signatures: &Signatures,
     platforms: &Platforms,
-) -> State
+) -> io::Result<State>
     requires { Within s }
-    ensures { Within result }
+    ensures { IfOk result Within }
 {
     let mut b = [0u8; 21];
-    let good = input::read_all(&mut b);
+    let good = input::read_all(reader, &mut b)?;
     let c = call_operands(&b, good);
     if !c.good {
-        return state::judged(s, false);
+        return Ok(state::judged(s, false));
     }
-    lines::write(call_with(s, c, store, signatures, platforms, candidate, destination));
-    state::called(s)
+    let line = call_with(s, c, store, signatures, platforms, candidate, destination);
+    lines::write(out, line)?;
+    Ok(state::called(s))
 }
 
-pub fn load(s: State, store: &Store, destination: &Destination) -> State
+pub fn load<P: Print, R: Read>(
+    out: &P,
+    reader: &mut R,
+    s: State,
+    store: &Store,
+    destination: &Destination,
+) -> io::Result<State>
     requires { Within s }
-    ensures { Within result }
+    ensures { IfOk result Within }
 {
     let mut b = [0u8; 9];
-    let good = input::read_all(&mut b);
+    let good = input::read_all(reader, &mut b)?;
     let l = load_operands(&b, good);
     if !l.good {
-        return state::judged(s, false);
+        return Ok(state::judged(s, false));
     }
-    lines::write(load_with(s, l, store, destination));
-    state::called(s)
+    lines::write(out, load_with(s, l, store, destination))?;
+    Ok(state::called(s))
 }

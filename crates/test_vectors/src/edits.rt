@@ -1,5 +1,5 @@
 // The steps that set bytes of a buffer.
-ghost use Rattle.std.specs.Prelude.{◌≡◌, ◌+◌, ◌≤◌, length, replicate};
+ghost use Rattle.std.specs.Prelude.{◌≡◌, ◌+◌, ◌≤◌, length, replicate, IfOk};
 ghost use Rattle.bytes_copy.specs.Paste.{put_at};
 ghost use Rattle.test_vectors.specs.RunState.{judged, Within};
 ghost use Rattle.test_vectors.specs.Operands.{fill_edit, put_edit};
@@ -8,6 +8,8 @@ ghost use Rattle.test_vectors.specs.Edits.{fits, edited, edited_by, edit_good};
 use crate::buffers::{Candidate, Destination, Store};
 use crate::state::State;
 use crate::{input, state};
+use std::io;
+use std::io::Read;
 
 // The most bytes that may follow a step.
 const FOLLOWING: usize = 1024;
@@ -54,29 +56,29 @@ fn put_edit(b: &[u8; 7], good: bool) -> Edit
 }
 
 // Reads the edit of opcode 2.
-fn read_fill() -> Edit {
+fn read_fill<R: Read>(reader: &mut R) -> io::Result<Edit> {
     let mut b = [0u8; 10];
-    let good = input::read_all(&mut b);
-    fill_edit(&b, good)
+    let good = input::read_all(reader, &mut b)?;
+    Ok(fill_edit(&b, good))
 }
 
 // Reads the edit of opcode 3, and the bytes that follow.
-fn read_put(bytes: &mut Following) -> Edit {
+fn read_put<R: Read>(reader: &mut R, bytes: &mut Following) -> io::Result<Edit> {
     let mut b = [0u8; 7];
-    let good = input::read_all(&mut b);
+    let good = input::read_all(reader, &mut b)?;
     let e = put_edit(&b, good);
-    let all = input::read_part(bytes, 0, e.count);
+    let all = input::read_part(reader, bytes, 0, e.count)?;
     let mut r = e;
     r.good = e.good && all;
-    r
+    Ok(r)
 }
 
 // Reads the edit of opcode 2, or of opcode 3.
-fn read(op: u32, bytes: &mut Following) -> Edit {
+fn read<R: Read>(reader: &mut R, op: u32, bytes: &mut Following) -> io::Result<Edit> {
     if op == 2 {
-        read_fill()
+        read_fill(reader)
     } else {
-        read_put(bytes)
+        read_put(reader, bytes)
     }
 }
 
@@ -141,17 +143,18 @@ fn make(
 }
 
 // The step of opcode 2, or of opcode 3.
-pub fn step(
+pub fn step<R: Read>(
+    reader: &mut R,
     op: u32,
     s: State,
     store: &mut Store,
     candidate: &mut Candidate,
     destination: &mut Destination,
-) -> State
+) -> io::Result<State>
     requires { Within s }
-    ensures { Within result }
+    ensures { IfOk result Within }
 {
     let mut bytes = [0u8; FOLLOWING];
-    let e = read(op, &mut bytes);
-    make(s, e, &bytes, store, candidate, destination)
+    let e = read(reader, op, &mut bytes)?;
+    Ok(make(s, e, &bytes, store, candidate, destination))
 }

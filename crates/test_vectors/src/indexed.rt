@@ -1,5 +1,5 @@
 // The steps that make a call through the index. Each writes a line.
-ghost use Rattle.std.specs.Prelude.{◌≡◌, ◌≤◌, ◌++◌, length, take, drop};
+ghost use Rattle.std.specs.Prelude.{◌≡◌, ◌≤◌, ◌++◌, length, take, drop, IfOk};
 ghost use Rattle.test_vectors.specs.RunState.{Within};
 ghost use Rattle.test_vectors.specs.Operands.{read_operands};
 ghost use Rattle.test_vectors.specs.IndexedLine.{read_destination, read_line, load_indexed_line};
@@ -9,6 +9,8 @@ use crate::calls::LoadOperands;
 use crate::lines::Line;
 use crate::state::State;
 use crate::{calls, digest, input, lines, state};
+use std::io;
+use std::io::{Print, Read};
 
 // The operands of a read through the index.
 #[derive(Clone, Copy)]
@@ -88,30 +90,44 @@ fn load_with(s: State, l: LoadOperands, index: &Index, store: &[u8], destination
     load_line(l, index, &store[..i], &destination[..n])
 }
 
-pub fn read(s: State, index: &Index, store: &Store, destination: &mut Destination) -> State
+pub fn read<P: Print, R: Read>(
+    out: &P,
+    reader: &mut R,
+    s: State,
+    index: &Index,
+    store: &Store,
+    destination: &mut Destination,
+) -> io::Result<State>
     requires { Within s }
-    ensures { Within result }
+    ensures { IfOk result Within }
 {
     let mut b = [0u8; 4];
-    let good = input::read_all(&mut b);
+    let good = input::read_all(reader, &mut b)?;
     let c = read_operands(&b, good);
     if !c.good {
-        return state::judged(s, false);
+        return Ok(state::judged(s, false));
     }
-    lines::write(read_with(s, c, index, store, destination));
-    state::called(s)
+    lines::write(out, read_with(s, c, index, store, destination))?;
+    Ok(state::called(s))
 }
 
-pub fn load(s: State, index: &Index, store: &Store, destination: &Destination) -> State
+pub fn load<P: Print, R: Read>(
+    out: &P,
+    reader: &mut R,
+    s: State,
+    index: &Index,
+    store: &Store,
+    destination: &Destination,
+) -> io::Result<State>
     requires { Within s }
-    ensures { Within result }
+    ensures { IfOk result Within }
 {
     let mut b = [0u8; 9];
-    let good = input::read_all(&mut b);
+    let good = input::read_all(reader, &mut b)?;
     let l = calls::load_operands(&b, good);
     if !l.good {
-        return state::judged(s, false);
+        return Ok(state::judged(s, false));
     }
-    lines::write(load_with(s, l, index, store, destination));
-    state::called(s)
+    lines::write(out, load_with(s, l, index, store, destination))?;
+    Ok(state::called(s))
 }

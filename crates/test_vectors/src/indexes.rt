@@ -1,5 +1,5 @@
 // The steps that set the index: it is made from the store, carried over a write, or put number by number.
-ghost use Rattle.std.specs.Prelude.{◌≡◌, ◌<◌, ◌≤◌, length, take};
+ghost use Rattle.std.specs.Prelude.{◌≡◌, ◌<◌, ◌≤◌, length, take, IfOk};
 ghost use Rattle.test_vectors.specs.RunState.{Within};
 ghost use Rattle.test_vectors.specs.Operands.{after_operands, put_operands};
 ghost use Rattle.test_vectors.specs.IndexLine.{made_index, carried_index, with_word, make_line, after_line};
@@ -8,6 +8,8 @@ use crate::buffers::{Destination, Index, Store};
 use crate::lines::{IndexLine, Line};
 use crate::state::State;
 use crate::{digest, input, lines, state};
+use std::io;
+use std::io::{Print, Read};
 use store_blocks::MOST_BLOCKS;
 
 // The operands of an index carried over a write.
@@ -141,39 +143,52 @@ fn set_number(index: &mut Index, p: PutOperands)
     index[place / MOST_BLOCKS][place % MOST_BLOCKS] = p.number;
 }
 
-pub fn make(s: State, store: &Store, destination: &Destination, index: &mut Index) -> State
+pub fn make<P: Print>(
+    out: &P,
+    s: State,
+    store: &Store,
+    destination: &Destination,
+    index: &mut Index,
+) -> io::Result<State>
     requires { Within s }
-    ensures { Within result }
+    ensures { IfOk result Within }
 {
-    lines::write_index(make_with(s, store, destination, index));
-    state::called(s)
+    lines::write_index(out, make_with(s, store, destination, index))?;
+    Ok(state::called(s))
 }
 
-pub fn after(s: State, store: &Store, destination: &Destination, index: &mut Index) -> State
+pub fn after<P: Print, R: Read>(
+    out: &P,
+    reader: &mut R,
+    s: State,
+    store: &Store,
+    destination: &Destination,
+    index: &mut Index,
+) -> io::Result<State>
     requires { Within s }
-    ensures { Within result }
+    ensures { IfOk result Within }
 {
     let mut b = [0u8; 16];
-    let good = input::read_all(&mut b);
+    let good = input::read_all(reader, &mut b)?;
     let c = after_operands(&b, good);
     if !c.good {
-        return state::judged(s, false);
+        return Ok(state::judged(s, false));
     }
-    lines::write_index(after_with(s, c, store, destination, index));
-    state::called(s)
+    lines::write_index(out, after_with(s, c, store, destination, index))?;
+    Ok(state::called(s))
 }
 
-pub fn put(s: State, index: &mut Index) -> State
+pub fn put<R: Read>(reader: &mut R, s: State, index: &mut Index) -> io::Result<State>
     requires { Within s }
-    ensures { Within result }
+    ensures { IfOk result Within }
 {
     let mut b = [0u8; 5];
-    let good = input::read_all(&mut b);
+    let good = input::read_all(reader, &mut b)?;
     let p = put_operands(&b, good);
     if p.good {
         set_number(index, p);
-        s
+        Ok(s)
     } else {
-        state::judged(s, false)
+        Ok(state::judged(s, false))
     }
 }

@@ -1,10 +1,12 @@
 // The step that sets the length of a buffer.
-ghost use Rattle.std.specs.Prelude.{◌≡◌};
+ghost use Rattle.std.specs.Prelude.{◌≡◌, IfOk};
 ghost use Rattle.test_vectors.specs.RunState.{with_length, Within};
 
 use crate::buffers::{CANDIDATE, DESTINATION, STORE};
 use crate::state::State;
 use crate::{input, state};
+use std::io;
+use std::io::Read;
 
 // The state with another length of buffer 0, 1 or 2.
 fn with_length(s: State, buffer: u8, length: u32) -> State
@@ -41,14 +43,14 @@ fn with_length(s: State, buffer: u8, length: u32) -> State
     }
 }
 
-pub fn length(s: State) -> State
+pub fn length<R: Read>(reader: &mut R, s: State) -> io::Result<State>
     requires { Within s }
-    ensures { Within result }
+    ensures { IfOk result Within }
 {
     let mut b = [0u8; 5];
-    if input::read_all(&mut b) {
-        with_length(s, b[0], bytes_dwords::dword(&b, 1))
+    if input::read_all(reader, &mut b)? {
+        Ok(with_length(s, b[0], bytes_dwords::dword(&b, 1)))
     } else {
-        state::judged(s, false)
+        Ok(state::judged(s, false))
     }
 }

@@ -1,5 +1,7 @@
 // The lines of output.
 use crate::state::State;
+use std::io;
+use std::io::Print;
 
 // The line of a call: its result, the answer words, and the digests of the store and the destination.
 #[derive(Clone, Copy)]
@@ -18,32 +20,32 @@ pub struct IndexLine {
 }
 
 // The columns that every line has.
-fn columns(line: Line) {
+fn columns<P: Print>(out: &P, line: Line) -> io::Result<()> {
     let answer = line.answer;
-    test_output::dword(b"", line.result);
-    test_output::words(&answer);
-    test_output::dword(b" ", line.store);
-    test_output::dword(b" ", line.destination);
+    test_output::dword(out, b"", line.result)?;
+    test_output::words(out, &answer)?;
+    test_output::dword(out, b" ", line.store)?;
+    test_output::dword(out, b" ", line.destination)
 }
 
-pub fn write(line: Line) {
-    columns(line);
-    test_output::text(b"\n");
+pub fn write<P: Print>(out: &P, line: Line) -> io::Result<()> {
+    columns(out, line)?;
+    test_output::text(out, b"\n")
 }
 
-pub fn write_index(made: IndexLine) {
+pub fn write_index<P: Print>(out: &P, made: IndexLine) -> io::Result<()> {
     let line = made.line;
-    columns(line);
-    test_output::dword(b" ", made.index);
-    test_output::text(b"\n");
+    columns(out, line)?;
+    test_output::dword(out, b" ", made.index)?;
+    test_output::text(out, b"\n")
 }
 
 // The line behind the last step.
-pub fn last(s: State) {
+pub fn last<P: Print>(out: &P, s: State) -> io::Result<()> {
     if s.good {
-        test_output::number(b"", s.calls);
-        test_output::text(b" calls\n");
+        test_output::number(out, b"", s.calls)?;
+        test_output::text(out, b" calls\n")
     } else {
-        test_output::text(b"bad vectors\n");
+        test_output::text(out, b"bad vectors\n")
     }
 }

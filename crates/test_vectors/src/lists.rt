@@ -1,11 +1,13 @@
 // The step that sets the list of processors: signatures, then platforms.
-ghost use Rattle.std.specs.Prelude.{◌≡◌};
+ghost use Rattle.std.specs.Prelude.{◌≡◌, IfOk};
 ghost use Rattle.test_vectors.specs.Operands.{dwords};
 ghost use Rattle.test_vectors.specs.RunState.{with_lengths, Within};
 
 use crate::buffers::{LIST, Platforms, Signatures};
 use crate::state::State;
 use crate::{input, state};
+use std::io;
+use std::io::Read;
 
 // The 16 numbers of 64 bytes.
 fn dwords(b: &[u8; 64]) -> Signatures
@@ -21,14 +23,14 @@ fn dwords(b: &[u8; 64]) -> Signatures
 }
 
 // Reads the first `m` signatures: false where the list has no room for them, or where the input ends before.
-fn read_signatures(list: &mut Signatures, m: u32) -> bool {
+fn read_signatures<R: Read>(reader: &mut R, list: &mut Signatures, m: u32) -> io::Result<bool> {
     if m > 16 {
-        return false;
+        return Ok(false);
     }
     let mut b = [0u8; 64];
-    let good = input::read_part(&mut b, 0, 4 * m);
+    let good = input::read_part(reader, &mut b, 0, 4 * m)?;
     *list = dwords(&b);
-    good
+    Ok(good)
 }
 
 // The state with other lengths of the lists.
@@ -50,13 +52,18 @@ fn with_lengths(s: State, signatures: u32, platforms: u32, good: bool) -> State
     r
 }
 
-pub fn list(s: State, signatures: &mut Signatures, platforms: &mut Platforms) -> State
+pub fn list<R: Read>(
+    reader: &mut R,
+    s: State,
+    signatures: &mut Signatures,
+    platforms: &mut Platforms,
+) -> io::Result<State>
     requires { Within s }
-    ensures { Within result }
+    ensures { IfOk result Within }
 {
-    let m = input::read_byte();
-    let some = read_signatures(signatures, m);
-    let n = input::read_byte();
-    let all = input::read_part(platforms, 0, n);
-    with_lengths(s, m, n, some && all)
+    let m = input::read_byte(reader)?;
+    let some = read_signatures(reader, signatures, m)?;
+    let n = input::read_byte(reader)?;
+    let all = input::read_part(reader, platforms, 0, n)?;
+    Ok(with_lengths(s, m, n, some && all))
 }

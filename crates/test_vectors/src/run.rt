@@ -11,14 +11,19 @@
 //  10  a read through it  block u32
 //  11  a load choice      signature u32, platform u32, loading u8; through the index
 // Buffer 0 is the store, 1 the candidate, 2 the destination. They begin as zeros of length 0, and the index as 128 zeros.
+ghost use Rattle.std.specs.Prelude.{IfOk};
 ghost use Rattle.test_vectors.specs.RunState.{Within};
 
 use crate::buffers::{Candidate, Destination, Index, Platforms, Signatures, Store};
 use crate::state::State;
 use crate::{calls, edits, indexed, indexes, input, lengths, lists, state};
+use std::io;
+use std::io::{Print, Read};
 
 // The step with an opcode.
-fn step(
+fn step<P: Print, R: Read>(
+    out: &P,
+    reader: &mut R,
     op: u32,
     s: State,
     store: &mut Store,
@@ -27,42 +32,54 @@ fn step(
     signatures: &mut Signatures,
     platforms: &mut Platforms,
     index: &mut Index,
-) -> State
+) -> io::Result<State>
     requires { Within s }
-    ensures { Within result }
+    ensures { IfOk result Within }
 {
     match op {
-        1 => lengths::length(s),
-        2 | 3 => edits::step(op, s, store, candidate, destination),
-        4 => lists::list(s, signatures, platforms),
-        5 => calls::call(s, store, candidate, destination, signatures, platforms),
-        6 => calls::load(s, store, destination),
-        7 => indexes::make(s, store, destination, index),
-        8 => indexes::after(s, store, destination, index),
-        9 => indexes::put(s, index),
-        10 => indexed::read(s, index, store, destination),
-        11 => indexed::load(s, index, store, destination),
-        _ => state::judged(s, false),
+        1 => lengths::length(reader, s),
+        2 | 3 => edits::step(reader, op, s, store, candidate, destination),
+        4 => lists::list(reader, s, signatures, platforms),
+        5 => calls::call(
+            out,
+            reader,
+            s,
+            store,
+            candidate,
+            destination,
+            signatures,
+            platforms,
+        ),
+        6 => calls::load(out, reader, s, store, destination),
+        7 => indexes::make(out, s, store, destination, index),
+        8 => indexes::after(out, reader, s, store, destination, index),
+        9 => indexes::put(reader, s, index),
+        10 => indexed::read(out, reader, s, index, store, destination),
+        11 => indexed::load(out, reader, s, index, store, destination),
+        _ => Ok(state::judged(s, false)),
     }
 }
 
 // All steps up to the end of the input, or to the first that breaks a bound. A million steps are the most.
-pub fn run(
+pub fn run<P: Print, R: Read>(
+    out: &P,
+    reader: &mut R,
     store: &mut Store,
     candidate: &mut Candidate,
     destination: &mut Destination,
     signatures: &mut Signatures,
     platforms: &mut Platforms,
     index: &mut Index,
-) -> State {
+) -> io::Result<State> {
     let mut s = state::begun();
-    let mut i: u32 = 0;
-    while i < 1000000 {
-        let op = input::read_byte();
+    for _ in 0..1000000 {
+        let op = input::read_byte(reader)?;
         if op == input::END {
-            return s;
+            return Ok(s);
         }
         s = step(
+            out,
+            reader,
             op,
             s,
             store,
@@ -71,11 +88,10 @@ pub fn run(
             signatures,
             platforms,
             index,
-        );
+        )?;
         if !s.good {
-            return s;
+            return Ok(s);
         }
-        i += 1;
     }
-    state::judged(s, input::read_byte() == input::END)
+    Ok(state::judged(s, input::read_byte(reader)? == input::END))
 }

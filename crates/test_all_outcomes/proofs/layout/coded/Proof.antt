@@ -6,18 +6,18 @@ use Rattle.test_all_outcomes.specs.SmallLayoutLaws.{coded_none, coded_more, code
 use Rattle.test_all_outcomes.proofs.layout.coded.Statement.{statement}
 use Rattle.test_all_outcomes.proofs.layout.coded.Tie as tie
 
-abbrev invariant-loop : tie.invariant-loop
-invariant-loop blocks code l₀ rest₀ block₀ l rest block = (l ≡ coded_to blocks code block) × (rest ≡ code / 9 ^ block) × (block ≤ blocks)
+abbrev invariant-loop-block : tie.invariant-loop-block
+invariant-loop-block blocks code l₀ rest₀ block₀ l rest block = (l ≡ coded_to blocks code block) × (rest ≡ code / 9 ^ block) × (block ≤ blocks)
 
-abbrev decreases-loop : tie.decreases-loop
-decreases-loop blocks code l₀ rest₀ block₀ l rest block = blocks - block
+abbrev decreases-loop-block : tie.decreases-loop-block
+decreases-loop-block blocks code l₀ rest₀ block₀ l rest block = blocks - block
 
 pub coded_spec : {M : Type 1} → statement M
 coded_spec =
     tie.close
     (tie.spec
-    invariant-loop
-    decreases-loop
+    invariant-loop-block
+    decreases-loop-block
     (λ c κs. search rules)
     (λ c. search (rules, coded_none, rest_none))
     (λ c κs. search rules)

@@ -5,9 +5,9 @@ use Rattle.test_all_outcomes.specs.SmallLayoutLaws.{room_taken, room_full, room_
 use Rattle.test_all_outcomes.proofs.layout.with_update.Statement.{statement}
 use Rattle.test_all_outcomes.proofs.layout.with_update.Tie as tie
 
-returns-4 : tie.Need-returns-4
+returns : tie.Need-returns
 unfolding added
-returns-4 c = room_there _ _ _ _ _ _ (omega arith) (omega arith) (omega arith) refl
+returns c = room_there _ _ _ _ _ _ (omega arith) (omega arith) (omega arith) refl
 
 pub with_update_spec : {M : Type 1} → statement M
 with_update_spec =
@@ -30,4 +30,4 @@ with_update_spec =
     (λ c. search rules)
     (λ c. search rules)
     (λ c. search rules)
-    returns-4)
+    returns)

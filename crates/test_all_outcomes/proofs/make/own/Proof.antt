@@ -6,4 +6,4 @@ use Rattle.test_all_outcomes.proofs.make.own.Tie as tie
 
 pub own_spec : {M : Type 1} → statement M
 unfolding own_cover
-own_spec = tie.close (tie.spec (λ c. search rules) (λ c κs. tt) (λ c. rw c.wrapping-add-u32.ensures))
+own_spec = tie.close (tie.spec (λ c. search rules) (λ c κs. tt) (λ c. rw c.wrapping_add_u32.ensures))

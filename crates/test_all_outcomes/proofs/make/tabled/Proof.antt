@@ -4,8 +4,8 @@ use Rattle.test_all_outcomes.specs.MadeStoreLaws.{tabled_short, tabled_made}
 use Rattle.test_all_outcomes.proofs.make.tabled.Statement.{statement}
 use Rattle.test_all_outcomes.proofs.make.tabled.Tie as tie
 
-returns-2 : tie.Need-returns-2
-returns-2 c =
+returns : tie.Need-returns
+returns c =
     let e = c.before.before in
     let d = e.before.before.before.before in
     let k = d.before.before.before.before in
@@ -13,7 +13,7 @@ returns-2 c =
     let a = b.before.before.before.before in
     let f = a.before.before.before.before in
     tabled_made _ _ _ _ _ (omega arith) _ _ _ _ _ _ f.fill.ensures a.header.ensures b.balance.ensures k.dword.ensures
-    d.entry.ensures e.balance2.ensures
+    d.entry.ensures e.balance-2.ensures
 
 pub tabled_spec : {M : Type 1} → statement M
 tabled_spec =
@@ -30,4 +30,4 @@ tabled_spec =
     (λ c. omega arith)
     (λ c κs. tt)
     (λ c. search rules)
-    returns-2)
+    returns)

@@ -6,19 +6,19 @@ use Rattle.test_all_outcomes.specs.TriedOutcomes.{allowed_at, allowed}
 use Rattle.test_all_outcomes.proofs.outcomes.allowed.Statement.{statement}
 use Rattle.test_all_outcomes.proofs.outcomes.allowed.Tie as tie
 
-abbrev invariant-loop : tie.invariant-loop
-invariant-loop l set i₀ i = (i ≤ 4) × (all_below i (allowed_at l set) ≡ true)
+abbrev invariant-loop-i : tie.invariant-loop-i
+invariant-loop-i l set i₀ i = (i ≤ 4) × (all_below i (allowed_at l set) ≡ true)
 
-abbrev decreases-loop : tie.decreases-loop
-decreases-loop l set i₀ i = 4 - i
+abbrev decreases-loop-i : tie.decreases-loop-i
+decreases-loop-i l set i₀ i = 4 - i
 
 pub allowed_spec : {M : Type 1} → statement M
 unfolding allowed
 allowed_spec =
     tie.close
     (tie.spec
-    invariant-loop
-    decreases-loop
+    invariant-loop-i
+    decreases-loop-i
     (λ c. search (rules, each))
     (λ c κs. search rules)
     (λ c. search rules)

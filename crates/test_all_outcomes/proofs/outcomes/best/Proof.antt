@@ -5,19 +5,19 @@ use Rattle.test_all_outcomes.specs.TriedOutcomeLaws.{start_none, start_more, sta
 use Rattle.test_all_outcomes.proofs.outcomes.best.Statement.{statement}
 use Rattle.test_all_outcomes.proofs.outcomes.best.Tie as tie
 
-abbrev invariant-loop : tie.invariant-loop
-invariant-loop l n o₀ blocks start₀ o start = (o ≡ best_to l n start) × (start ≤ blocks)
+abbrev invariant-loop-start : tie.invariant-loop-start
+invariant-loop-start l n o₀ blocks start₀ o start = (o ≡ best_to l n start) × (start ≤ blocks)
 
-abbrev decreases-loop : tie.decreases-loop
-decreases-loop l n o₀ blocks start₀ o start = blocks - start
+abbrev decreases-loop-start : tie.decreases-loop-start
+decreases-loop-start l n o₀ blocks start₀ o start = blocks - start
 
 pub best_spec : {M : Type 1} → statement M
 unfolding best
 best_spec =
     tie.close
     (tie.spec
-    invariant-loop
-    decreases-loop
+    invariant-loop-start
+    decreases-loop-start
     (λ c κs. search rules)
     (λ c. search (rules, start_none))
     (λ c κs. search rules)

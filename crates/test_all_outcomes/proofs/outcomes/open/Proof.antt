@@ -7,19 +7,19 @@ use Rattle.test_all_outcomes.specs.TriedOutcomes.{free_of, is_open}
 use Rattle.test_all_outcomes.proofs.outcomes.open.Statement.{statement}
 use Rattle.test_all_outcomes.proofs.outcomes.open.Tie as tie
 
-abbrev invariant-loop : tie.invariant-loop
-invariant-loop l set c i₀ i = (i ≤ 4) × (all_below i (free_of l set c) ≡ true)
+abbrev invariant-loop-i : tie.invariant-loop-i
+invariant-loop-i l set c i₀ i = (i ≤ 4) × (all_below i (free_of l set c) ≡ true)
 
-abbrev decreases-loop : tie.decreases-loop
-decreases-loop l set c i₀ i = 4 - i
+abbrev decreases-loop-i : tie.decreases-loop-i
+decreases-loop-i l set c i₀ i = 4 - i
 
 pub open_spec : {M : Type 1} → statement M
 unfolding is_open
 open_spec =
     tie.close
     (tie.spec
-    invariant-loop
-    decreases-loop
+    invariant-loop-i
+    decreases-loop-i
     (λ c. search (rules, each))
     (λ c κs. search rules)
     (λ c. search rules)

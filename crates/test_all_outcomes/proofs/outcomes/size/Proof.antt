@@ -6,19 +6,19 @@ use Rattle.test_all_outcomes.specs.TriedOutcomes.{size_of}
 use Rattle.test_all_outcomes.proofs.outcomes.size.Statement.{statement}
 use Rattle.test_all_outcomes.proofs.outcomes.size.Tie as tie
 
-abbrev invariant-loop : tie.invariant-loop
-invariant-loop set n₀ i₀ n i = (n ≡ count_below i (mark_at set.has)) × (i ≤ 4) × (n ≤ i)
+abbrev invariant-loop-i : tie.invariant-loop-i
+invariant-loop-i set n₀ i₀ n i = (n ≡ count_below i (mark_at set.has)) × (i ≤ 4) × (n ≤ i)
 
-abbrev decreases-loop : tie.decreases-loop
-decreases-loop set n₀ i₀ n i = 4 - i
+abbrev decreases-loop-i : tie.decreases-loop-i
+decreases-loop-i set n₀ i₀ n i = 4 - i
 
 pub size_spec : {M : Type 1} → statement M
 unfolding size_of mark_at
 size_spec =
     tie.close
     (tie.spec
-    invariant-loop
-    decreases-loop
+    invariant-loop-i
+    decreases-loop-i
     (λ c. search (rules, counting))
     (λ c. search rules)
     (λ c. search rules)

@@ -6,34 +6,34 @@ use Rattle.test_all_outcomes.specs.SetBlockLaws.{bits_none, bits_more, bits_same
 use Rattle.test_all_outcomes.proofs.set_blocks.bits.Statement.{statement}
 use Rattle.test_all_outcomes.proofs.set_blocks.bits.Tie as tie
 
-abbrev invariant-loop : tie.invariant-loop
-invariant-loop l set bits₀ c₀ bits c = (bits ≡ bits_below c (taken l set)) × (c ≤ 6)
+abbrev invariant-loop-c : tie.invariant-loop-c
+invariant-loop-c l set bits₀ c₀ bits c = (bits ≡ bits_below c (taken l set)) × (c ≤ 6)
 
-abbrev decreases-loop : tie.decreases-loop
-decreases-loop l set bits₀ c₀ bits c = 6 - c
+abbrev decreases-loop-c : tie.decreases-loop-c
+decreases-loop-c l set bits₀ c₀ bits c = 6 - c
 
 -- a block that is taken: `l` is the turn's beginning
-add_bits : tie.Need-overflow-add-bits invariant-loop decreases-loop
+add_bits : tie.Need-overflow_add-bits invariant-loop-c decreases-loop-c
 add_bits c =
     let l = c.before.before in
-    record { fits = bits_room _ _ _ l.before.loop.invariant.0 _ c.before.taken.ensures (omega (arith, l.loop-test.true)) c.if1.true }
+    record { fits = bits_room _ _ _ l.before.loop-c.invariant.0 _ c.before.taken.ensures (omega (arith, l.loop-c-test.true)) c.if-taken.true }
 
-loop_again : tie.Need-loop-preserved invariant-loop decreases-loop
+loop_again : tie.Need-loop-c-preserved-then-taken invariant-loop-c decreases-loop-c
 loop_again c =
     let l = c.before.before in
-    (bits_more _ _ _ l.before.loop.invariant.0 _ c.before.taken.ensures (omega (arith, l.loop-test.true)) c.if1.true, omega (arith, l.loop-test.true))
+    (bits_more _ _ _ l.before.loop-c.invariant.0 _ c.before.taken.ensures (omega (arith, l.loop-c-test.true)) c.if-taken.true, omega (arith, l.loop-c-test.true))
 
-loop_again_2 : tie.Need-loop-preserved-2 invariant-loop decreases-loop
+loop_again_2 : tie.Need-loop-c-preserved invariant-loop-c decreases-loop-c
 loop_again_2 c =
     let l = c.before.before in
-    (bits_same _ _ _ l.before.loop.invariant.0 _ c.before.taken.ensures c.if1.false, omega (arith, l.loop-test.true))
+    (bits_same _ _ _ l.before.loop-c.invariant.0 _ c.before.taken.ensures c.if-taken.false, omega (arith, l.loop-c-test.true))
 
 pub bits_spec : {M : Type 1} → statement M
 bits_spec =
     tie.close
     (tie.spec
-    invariant-loop
-    decreases-loop
+    invariant-loop-c
+    decreases-loop-c
     (λ c. search (rules, bits_none))
     (λ c. search rules)
     (λ c κs. search rules)

@@ -11,4 +11,4 @@ with_spec =
     (λ c κs. tt)
     (λ c κs. tt)
     (λ c κs. tt)
-    (λ c. rw (c.with_call.ensures, c.before.with-judged.ensures, c.before.before.with_number.ensures)))
+    (λ c. rw (c.with_call.ensures, c.before.with_judged.ensures, c.before.before.with_number.ensures)))

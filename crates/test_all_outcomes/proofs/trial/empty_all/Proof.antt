@@ -5,18 +5,18 @@ use Rattle.test_all_outcomes.specs.WantedStoreLaws.{emptied_none, emptied_more, 
 use Rattle.test_all_outcomes.proofs.trial.empty_all.Statement.{statement}
 use Rattle.test_all_outcomes.proofs.trial.empty_all.Tie as tie
 
-abbrev invariant-loop : tie.invariant-loop
-invariant-loop buf₀ l set i₀ buf i = (buf ≡ emptied_to buf₀ l set i) × (i ≤ 4) × (length buf ≡ length buf₀)
+abbrev invariant-loop-i : tie.invariant-loop-i
+invariant-loop-i buf₀ l set i₀ buf i = (buf ≡ emptied_to buf₀ l set i) × (i ≤ 4) × (length buf ≡ length buf₀)
 
-abbrev decreases-loop : tie.decreases-loop
-decreases-loop buf₀ l set i₀ buf i = 4 - i
+abbrev decreases-loop-i : tie.decreases-loop-i
+decreases-loop-i buf₀ l set i₀ buf i = 4 - i
 
 pub empty_all_spec : {M : Type 1} → statement M
 empty_all_spec =
     tie.close
     (tie.spec
-    invariant-loop
-    decreases-loop
+    invariant-loop-i
+    decreases-loop-i
     (λ c. search (rules, emptied_none))
     (λ c κs. tt)
     (λ c. search rules)

@@ -9,7 +9,7 @@ unfolding candidate_at
 returns c =
     let d = c.before.before in
     let e = d.before.before.before.before.before in
-    rw (d.put.ensures, e.fill.ensures, d.before.bytes3.ensures, e.before.bytes2.ensures, e.before.before.bytes.ensures)
+    rw (d.put.ensures, e.fill.ensures, d.before.bytes-3.ensures, e.before.bytes-2.ensures, e.before.before.bytes.ensures)
 
 pub put_candidate_spec : {M : Type 1} → statement M
 put_candidate_spec =

@@ -6,18 +6,18 @@ use Rattle.test_all_outcomes.specs.JudgedAnswerLaws.{samenesses}
 use Rattle.test_all_outcomes.proofs.trial.same.Statement.{statement}
 use Rattle.test_all_outcomes.proofs.trial.same.Tie as tie
 
-abbrev invariant-loop : tie.invariant-loop
-invariant-loop a b n i₀ i = (all_below i (same_at a b) ≡ true) × (i ≤ n)
+abbrev invariant-loop-i : tie.invariant-loop-i
+invariant-loop-i a b n i₀ i = (all_below i (same_at a b) ≡ true) × (i ≤ n)
 
-abbrev decreases-loop : tie.decreases-loop
-decreases-loop a b n i₀ i = n - i
+abbrev decreases-loop-i : tie.decreases-loop-i
+decreases-loop-i a b n i₀ i = n - i
 
 pub same_spec : {M : Type 1} → statement M
 same_spec =
     tie.close
     (tie.spec
-    invariant-loop
-    decreases-loop
+    invariant-loop-i
+    decreases-loop-i
     (λ c. search (rules, all_none))
     (λ c. search samenesses)
     (λ c. search samenesses)

@@ -3,13 +3,13 @@ use Rattle.std.proofs.Common.{◌-◌, length, drop, sym, arith, length-drop, dr
 use Rattle.test_samples.proofs.bytes.behind.Statement.{statement}
 use Rattle.test_samples.proofs.bytes.behind.Tie as tie
 
-returns : tie.Need-returns
-returns c =
+returns-then-n-s : tie.Need-returns-then-n-s
+returns-then-n-s c =
     let a = c.before.before.args in
     take_all (length a.s.now - a.n) (drop a.n a.s.now) (omega (arith, length-drop a.n a.s.now))
 
-returns-2 : tie.Need-returns-2
-returns-2 c = let a = c.before.before.args in sym (drop_of_length-le a.s.now {i = a.n} (omega arith))
+returns-else-n-s : tie.Need-returns-else-n-s
+returns-else-n-s c = let a = c.before.args in sym (drop_of_length-le a.s.now {i = a.n} (omega arith))
 
 pub behind_spec : {M : Type 1} → statement M
 behind_spec =
@@ -19,5 +19,5 @@ behind_spec =
     (search rules)
     (search rules)
     (search rules)
-    returns
-    returns-2)
+    returns-then-n-s
+    returns-else-n-s)

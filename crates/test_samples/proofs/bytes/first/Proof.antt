@@ -3,8 +3,8 @@ use Rattle.std.proofs.Common.{sym, arith, length-take, take_all, rules}
 use Rattle.test_samples.proofs.bytes.first.Statement.{statement}
 use Rattle.test_samples.proofs.bytes.first.Tie as tie
 
-returns-2 : tie.Need-returns-2
-returns-2 c = let a = c.before.args in sym (take_all a.n a.s.now (omega arith))
+returns-else-n-s : tie.Need-returns-else-n-s
+returns-else-n-s c = let a = c.before.args in sym (take_all a.n a.s.now (omega arith))
 
 pub first_spec : {M : Type 1} → statement M
-first_spec = tie.close (tie.spec (λ c. simp length-take (omega arith)) (search rules) returns-2)
+first_spec = tie.close (tie.spec (λ c. simp length-take (omega arith)) (search rules) returns-else-n-s)

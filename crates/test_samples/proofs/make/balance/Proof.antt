@@ -9,8 +9,8 @@ unfolding balance
 returns c =
     let n = c.before.before.before in
     let p = n.before.before.before in
-    let z = p.before.before.before.before.before in
-    rw (c.before.before.dword2.ensures, n.negated.ensures, n.before.before.sum.ensures, p.behind.ensures, p.before.first.ensures, z.dword.ensures)
+    let z = p.before.before.before.before in
+    rw (c.before.before.dword-2.ensures, n.negated.ensures, n.before.before.sum-sum.ensures, p.behind.ensures, p.before.first.ensures, z.dword.ensures)
 
 pub balance_spec : {M : Type 1} → statement M
 balance_spec =

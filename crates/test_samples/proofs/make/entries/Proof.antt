@@ -4,18 +4,18 @@ use Rattle.test_samples.specs.Make.{entries, entries_none, entries_more, entries
 use Rattle.test_samples.proofs.make.entries.Statement.{statement}
 use Rattle.test_samples.proofs.make.entries.Tie as tie
 
-abbrev invariant-loop : tie.invariant-loop
-invariant-loop buf₀ at n signature flags k₀ buf k = (k ≤ n) × (length buf ≡ length buf₀) × (buf ≡ entries buf₀ at signature flags k)
+abbrev invariant-loop-k : tie.invariant-loop-k
+invariant-loop-k buf₀ at n signature flags k₀ buf k = (k ≤ n) × (length buf ≡ length buf₀) × (buf ≡ entries buf₀ at signature flags k)
 
-abbrev decreases-loop : tie.decreases-loop
-decreases-loop buf₀ at n signature flags k₀ buf k = n - k
+abbrev decreases-loop-k : tie.decreases-loop-k
+decreases-loop-k buf₀ at n signature flags k₀ buf k = n - k
 
 pub entries_spec : {M : Type 1} → statement M
 entries_spec =
     tie.close
     (tie.spec
-    invariant-loop
-    decreases-loop
+    invariant-loop-k
+    decreases-loop-k
     (λ c. (omega arith, refl, entries_none _ _ _ _))
     (λ c. omega arith)
     (λ c κs. tt)

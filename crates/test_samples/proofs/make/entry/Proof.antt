@@ -10,7 +10,7 @@ returns c =
     let d = c.before.before in
     let e = d.before.before.before.before in
     let f = e.before.before.before.before in
-    rw (d.dword3.ensures, e.dword2.ensures, f.dword.ensures, f.before.before.rest_of.ensures)
+    rw (d.dword-3.ensures, e.dword-2.ensures, f.dword.ensures, f.before.before.rest_of-rest.ensures)
 
 pub entry_spec : {M : Type 1} → statement M
 entry_spec =

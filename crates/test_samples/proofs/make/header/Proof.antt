@@ -15,7 +15,7 @@ returns c =
     let k = d.before.before.before.before in
     let b = k.before.before.before.before in
     let a = b.before.before.before.before in
-    rw (h.dword8.ensures, g.dword7.ensures, f.dword6.ensures, e.dword5.ensures, d.dword4.ensures, k.dword3.ensures, b.dword2.ensures, a.dword.ensures)
+    rw (h.dword-8.ensures, g.dword-7.ensures, f.dword-6.ensures, e.dword-5.ensures, d.dword-4.ensures, k.dword-3.ensures, b.dword-2.ensures, a.dword.ensures)
 
 pub header_spec : {M : Type 1} → statement M
 header_spec =

@@ -8,7 +8,7 @@ unfolding rest_of
 returns c =
     let n = c.before.before in
     let s = n.before.before in
-    rw (c.wrapping-add-u324.ensures, c.before.negated.ensures, n.wrapping-add-u323.ensures, n.before.wrapping-add-u322.ensures, s.checksum.ensures, s.before.wrapping-add-u32.ensures, s.before.before.flags.ensures, s.before.before.before.signature.ensures)
+    rw (c.wrapping_add_u32-2.ensures, c.before.negated.ensures, n.wrapping_add_u32.ensures, n.before.wrapping_add_u32-sum.ensures, s.checksum.ensures, s.before.wrapping_add_u32-pair.ensures, s.before.before.flags.ensures, s.before.before.before.signature.ensures)
 
 pub rest_of_spec : {M : Type 1} → statement M
 rest_of_spec =

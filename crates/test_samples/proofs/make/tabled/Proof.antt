@@ -4,15 +4,15 @@ use Rattle.test_samples.specs.Make.{tabled_long, tabled_many, tabled_made}
 use Rattle.test_samples.proofs.make.tabled.Statement.{statement}
 use Rattle.test_samples.proofs.make.tabled.Tie as tie
 
-returns-3 : tie.Need-returns-3
-returns-3 c =
+returns : tie.Need-returns
+returns c =
     let e = c.before.before in
     let d = e.before.before.before.before in
     let k = d.before.before.before.before in
     let b = k.before.before.before.before in
     let a = b.before.before.before.before in
     let l = a.before.before in
-    tabled_made _ _ _ _ _ _ _ _ _ _ l.before.if1.false l.if2.false a.header.ensures b.balance.ensures k.dword.ensures d.entries.ensures e.balance2.ensures
+    tabled_made _ _ _ _ _ _ _ _ _ _ l.before.if-d-gt65536.false l.if-n-gt1000.false a.header.ensures b.balance.ensures k.dword.ensures d.entries.ensures e.balance-2.ensures
 
 pub tabled_spec : {M : Type 1} → statement M
 tabled_spec =
@@ -32,4 +32,4 @@ tabled_spec =
     (λ c. omega arith)
     (λ c κs. tt)
     (λ c. search rules)
-    returns-3)
+    returns)

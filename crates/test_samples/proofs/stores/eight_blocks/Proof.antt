@@ -10,7 +10,7 @@ returns c =
     let d = c.before.before in
     let e = d.before.before.before.before.before in
     let f = e.before.before.before.before in
-    rw (d.put.ensures, e.four-blocks.ensures, f.fill.ensures, f.before.before.before.plain.ensures)
+    rw (d.put.ensures, e.four_blocks.ensures, f.fill.ensures, f.before.before.before.plain.ensures)
 
 pub eight_blocks_spec : {M : Type 1} → statement M
 eight_blocks_spec =

@@ -7,9 +7,9 @@ use Rattle.test_vectors.proofs.calls.call_line.Tie as tie
 returns : tie.Need-returns
 unfolding reply_to store_after destination_after call_line
 returns c =
-    let d = c.before.before in
-    let e = d.before.before.before.before.before.before.update-store-call.ensures in
-    (rw (c.digest2.ensures, d.digest.ensures, e.0, e.1.0, e.1.1.0, e.1.1.1), (e.1.1.0, e.1.1.1))
+    let d = c.before in
+    let e = d.before.before.before.before.before.update_store_call-result.ensures in
+    (rw (c.digest-2.ensures, d.digest.ensures, e.0, e.1.0, e.1.1.0, e.1.1.1), (e.1.1.0, e.1.1.1))
 
 pub call_line_spec : {M : Type 1} → statement M
 call_line_spec =

@@ -4,23 +4,23 @@ use Rattle.test_vectors.specs.Operands.{call_operands}
 use Rattle.test_vectors.proofs.calls.call_operands.Statement.{statement}
 use Rattle.test_vectors.proofs.calls.call_operands.Tie as tie
 
-returns : tie.Need-returns
+returns-then-good : tie.Need-returns-then-good
 unfolding call_operands
-returns c =
+returns-then-good c =
     let e = c.before.before.before in
     let d = e.before.before in
     let k = d.before.before in
     let b = k.before.before in
-    rw (e.dword5.ensures, d.dword4.ensures, k.dword3.ensures, b.dword2.ensures, b.before.before.dword.ensures, c.before.if1.true)
+    rw (e.dword-5.ensures, d.dword-4.ensures, k.dword-3.ensures, b.dword-2.ensures, b.before.before.dword.ensures, c.before.if-good.true)
 
-returns-2 : tie.Need-returns-2
+returns-else-good : tie.Need-returns-else-good
 unfolding call_operands
-returns-2 c =
+returns-else-good c =
     let e = c.before.before in
     let d = e.before.before in
     let k = d.before.before in
     let b = k.before.before in
-    rw (e.dword5.ensures, d.dword4.ensures, k.dword3.ensures, b.dword2.ensures, b.before.before.dword.ensures, c.if1.false)
+    rw (e.dword-5.ensures, d.dword-4.ensures, k.dword-3.ensures, b.dword-2.ensures, b.before.before.dword.ensures, c.if-good.false)
 
 pub call_operands_spec : {M : Type 1} → statement M
 call_operands_spec =
@@ -33,5 +33,5 @@ call_operands_spec =
     (λ c κs. tt)
     (λ c. search rules)
     (λ c. search rules)
-    returns
-    returns-2)
+    returns-then-good
+    returns-else-good)

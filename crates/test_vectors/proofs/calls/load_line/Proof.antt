@@ -7,8 +7,8 @@ returns : tie.Need-returns
 unfolding load_line
 returns c =
     let d = c.before in
-    let e = d.before.update-store-load.ensures in
-    rw (c.digest2.ensures, d.digest.ensures, e.0, e.1)
+    let e = d.before.update_store_load-result.ensures in
+    rw (c.digest-2.ensures, d.digest.ensures, e.0, e.1)
 
 pub load_line_spec : {M : Type 1} → statement M
 load_line_spec = tie.close (tie.spec (λ c κs. tt) (λ c κs. tt) (λ c κs. tt) returns)

@@ -4,13 +4,13 @@ use Rattle.test_vectors.specs.Operands.{load_operands}
 use Rattle.test_vectors.proofs.calls.load_operands.Statement.{statement}
 use Rattle.test_vectors.proofs.calls.load_operands.Tie as tie
 
-returns : tie.Need-returns
+returns-then-good : tie.Need-returns-then-good
 unfolding load_operands
-returns c = let b = c.before.before.before in rw (b.dword2.ensures, b.before.before.dword.ensures, c.before.if1.true)
+returns-then-good c = let b = c.before.before.before in rw (b.dword-2.ensures, b.before.before.dword.ensures, c.before.if-good.true)
 
-returns-2 : tie.Need-returns-2
+returns-else-good : tie.Need-returns-else-good
 unfolding load_operands
-returns-2 c = let b = c.before.before in rw (b.dword2.ensures, b.before.before.dword.ensures, c.if1.false)
+returns-else-good c = let b = c.before.before in rw (b.dword-2.ensures, b.before.before.dword.ensures, c.if-good.false)
 
 pub load_operands_spec : {M : Type 1} → statement M
 load_operands_spec =
@@ -20,5 +20,5 @@ load_operands_spec =
     (λ c κs. tt)
     (λ c. search rules)
     (λ c. search rules)
-    returns
-    returns-2)
+    returns-then-good
+    returns-else-good)

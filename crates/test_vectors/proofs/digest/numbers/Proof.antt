@@ -6,18 +6,18 @@ use Rattle.test_vectors.specs.DigestLaws.{index_none, index_next, index_all}
 use Rattle.test_vectors.proofs.digest.numbers.Statement.{statement}
 use Rattle.test_vectors.proofs.digest.numbers.Tie as tie
 
-abbrev invariant-loop : tie.invariant-loop
-invariant-loop x h₀ i₀ h i = (i ≤ 128) × (h < modulus) × (h ≡ digest_to (word_at x) i)
+abbrev invariant-loop-i : tie.invariant-loop-i
+invariant-loop-i x h₀ i₀ h i = (i ≤ 128) × (h < modulus) × (h ≡ digest_to (word_at x) i)
 
-abbrev decreases-loop : tie.decreases-loop
-decreases-loop x h₀ i₀ h i = 128 - i
+abbrev decreases-loop-i : tie.decreases-loop-i
+decreases-loop-i x h₀ i₀ h i = 128 - i
 
 pub numbers_spec : {M : Type 1} → statement M
 numbers_spec =
     tie.close
     (tie.spec
-    invariant-loop
-    decreases-loop
+    invariant-loop-i
+    decreases-loop-i
     (λ c. search (rules, index_none))
     (λ c. omega arith)
     (λ c. omega arith)

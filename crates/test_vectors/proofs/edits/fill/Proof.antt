@@ -5,18 +5,18 @@ use Rattle.test_vectors.specs.EditLaws.{fill_none, fill_more, fill_done}
 use Rattle.test_vectors.proofs.edits.fill.Statement.{statement}
 use Rattle.test_vectors.proofs.edits.fill.Tie as tie
 
-abbrev invariant-loop : tie.invariant-loop
-invariant-loop buf₀ at n byte i₀ buf i = (buf ≡ put_at buf₀ at (replicate n byte) i) × (i ≤ n) × (length buf ≡ length buf₀)
+abbrev invariant-loop-i : tie.invariant-loop-i
+invariant-loop-i buf₀ at n byte i₀ buf i = (buf ≡ put_at buf₀ at (replicate n byte) i) × (i ≤ n) × (length buf ≡ length buf₀)
 
-abbrev decreases-loop : tie.decreases-loop
-decreases-loop buf₀ at n byte i₀ buf i = n - i
+abbrev decreases-loop-i : tie.decreases-loop-i
+decreases-loop-i buf₀ at n byte i₀ buf i = n - i
 
 pub fill_spec : {M : Type 1} → statement M
 fill_spec =
     tie.close
     (tie.spec
-    invariant-loop
-    decreases-loop
+    invariant-loop-i
+    decreases-loop-i
     (λ c. (fill_none _ _ c.args.n c.args.byte, omega arith, refl))
     (λ c. omega arith)
     (λ c. omega arith)

@@ -4,7 +4,7 @@ use Rattle.test_vectors.proofs.indexed.read_with.Statement.{statement}
 use Rattle.test_vectors.proofs.indexed.read_with.Tie as tie
 
 returns : tie.Need-returns
-returns c = let e = c.before.before.read-line.ensures in (e.0, rw e.1)
+returns c = let e = c.before.before.read_line.ensures in (e.0, rw e.1)
 
 pub read_with_spec : {M : Type 1} → statement M
 read_with_spec =

@@ -8,7 +8,7 @@ unfolding after_operands
 returns c =
     let d = c.before.before in
     let k = d.before.before in
-    rw (c.dword4.ensures, d.dword3.ensures, k.dword2.ensures, k.before.before.dword.ensures)
+    rw (c.dword-4.ensures, d.dword-3.ensures, k.dword-2.ensures, k.before.before.dword.ensures)
 
 pub after_operands_spec : {M : Type 1} → statement M
 after_operands_spec = tie.close (tie.spec (λ c κs. tt) (λ c κs. tt) (λ c κs. tt) (λ c κs. tt) returns)

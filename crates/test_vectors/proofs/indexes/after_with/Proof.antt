@@ -10,4 +10,4 @@ after_with_spec =
     (λ c. simp length-take (omega arith))
     (λ c. simp length-take (omega arith))
     (λ c κs. tt)
-    (λ c. c.after_Line.ensures))
+    (λ c. c.after_line.ensures))

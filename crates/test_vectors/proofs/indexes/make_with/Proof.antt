@@ -10,4 +10,4 @@ make_with_spec =
     (λ c. simp length-take (omega arith))
     (λ c. simp length-take (omega arith))
     (λ c κs. tt)
-    (λ c. c.make-line.ensures))
+    (λ c. c.make_line.ensures))

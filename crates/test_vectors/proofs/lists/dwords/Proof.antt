@@ -5,18 +5,18 @@ use Rattle.test_vectors.specs.OperandLaws.{dwords_none, dwords_more, dwords_done
 use Rattle.test_vectors.proofs.lists.dwords.Statement.{statement}
 use Rattle.test_vectors.proofs.lists.dwords.Tie as tie
 
-abbrev invariant-loop : tie.invariant-loop
-invariant-loop b list₀ i₀ list i = (take i list ≡ dwords b i) × (i ≤ 16) × (length list ≡ 16)
+abbrev invariant-loop-i : tie.invariant-loop-i
+invariant-loop-i b list₀ i₀ list i = (take i list ≡ dwords b i) × (i ≤ 16) × (length list ≡ 16)
 
-abbrev decreases-loop : tie.decreases-loop
-decreases-loop b list₀ i₀ list i = 16 - i
+abbrev decreases-loop-i : tie.decreases-loop-i
+decreases-loop-i b list₀ i₀ list i = 16 - i
 
 pub dwords_spec : {M : Type 1} → statement M
 dwords_spec =
     tie.close
     (tie.spec
-    invariant-loop
-    decreases-loop
+    invariant-loop-i
+    decreases-loop-i
     (λ c. (dwords_none c.args.b.now, omega arith, refl))
     (λ c. omega arith)
     (λ c κs. tt)
@@ -24,5 +24,5 @@ dwords_spec =
     (λ c. search rules)
     (λ c. omega arith)
     (λ c. omega arith)
-    (λ c. (dwords_more _ _ _ _ c.before.before.before.loop.invariant.0 (omega arith) c.dword.ensures, omega arith, simp length-set (search rules)))
+    (λ c. (dwords_more _ _ _ _ c.before.before.before.loop-i.invariant.0 (omega arith) c.dword.ensures, omega arith, simp length-set (search rules)))
     (λ c. search dwords_done))

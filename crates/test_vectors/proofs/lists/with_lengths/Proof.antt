@@ -5,17 +5,17 @@ use Rattle.test_vectors.specs.RunState.{with_lengths}
 use Rattle.test_vectors.proofs.lists.with_lengths.Statement.{statement}
 use Rattle.test_vectors.proofs.lists.with_lengths.Tie as tie
 
+returns-then-m-gt-LIST : tie.Need-returns-then-m-gt-LIST
+unfolding with_lengths
+returns-then-m-gt-LIST c = rw (lt-leb _ _ c.before.if-m-gt-LIST.true) c.judged.ensures
+
+returns-then-n-gt-LIST : tie.Need-returns-then-n-gt-LIST
+unfolding with_lengths
+returns-then-n-gt-LIST c = rw (le-leb _ _ c.before.before.if-m-gt-LIST.false, lt-leb _ _ c.before.if-n-gt-LIST.true) c.judged-then-n-gt-LIST.ensures
+
 returns : tie.Need-returns
 unfolding with_lengths
-returns c = rw (lt-leb _ _ c.before.if1.true) c.judged.ensures
-
-returns-2 : tie.Need-returns-2
-unfolding with_lengths
-returns-2 c = rw (le-leb _ _ c.before.before.if1.false, lt-leb _ _ c.before.if2.true) c.judged2.ensures
-
-returns-3 : tie.Need-returns-3
-unfolding with_lengths
-returns-3 c = rw (le-leb _ _ c.before.if1.false, le-leb _ _ c.if2.false)
+returns c = rw (le-leb _ _ c.before.if-m-gt-LIST.false, le-leb _ _ c.if-n-gt-LIST.false)
 
 pub with_lengths_spec : {M : Type 1} → statement M
-with_lengths_spec = tie.close (tie.spec (λ c κs. tt) returns (λ c κs. tt) returns-2 returns-3)
+with_lengths_spec = tie.close (tie.spec (λ c κs. tt) returns-then-m-gt-LIST (λ c κs. tt) returns-then-n-gt-LIST returns)

@@ -3,4 +3,4 @@ use Rattle.test_vectors.proofs.state.called.Statement.{statement}
 use Rattle.test_vectors.proofs.state.called.Tie as tie
 
 pub called_spec : {M : Type 1} → statement M
-called_spec = tie.close (tie.spec (λ c κs. tt) (λ c. rw c.wrapping-add-u32.ensures))
+called_spec = tie.close (tie.spec (λ c κs. tt) (λ c. rw c.wrapping_add_u32.ensures))
