@@ -10,6 +10,7 @@ pub const NUMBERS: usize = 128;
 pub type Index = [[u32; MOST_BLOCKS]; COLUMNS];
 
 // Are all the numbers of two indexes the same?
+#[tactic(auto, using(crate::specs::SameNumberLaws::samenesses))]
 pub fn same(x: &Index, y: &Index) -> bool
     ensures { result ≡ same_numbers x.now y.now }
 {
