@@ -18,7 +18,7 @@ fn space() -> [u8; INPUT_ROOM]
     [0; INPUT_ROOM]
 }
 
-// Reads until the buffer is full or the input ends, however it arrives, and answers how many bytes there are.
+// Reads until the buffer is full or the input ends, however it arrives, and answers how many bytes there are. A read that fails ends it.
 fn read<R: Read>(input: &mut R, buffer: &mut [u8]) -> io::Result<usize>
     ensures { IfOk result (λ n. n ≤ length buffer.new) }
 {
