@@ -1,13 +1,13 @@
 // Reads a store from standard input and writes its catalogue.
 #![tactic(auto)]
 
-ghost use Rattle.std.specs.Prelude.{◌≡◌, length};
-ghost use Rattle.io.specs.Counts.{IsPrefixLen};
+ghost use Rattle.std.specs.Prelude.{◌≡◌, ◌≤◌, IfOk, length};
 ghost use Rattle.report_catalogue.specs.Catalogue.{input_room};
 
-use libc::{STDIN_FILENO, STDOUT_FILENO};
 use report_catalogue::LARGEST_STORE;
 use report_text::{ROOM, Report};
+use std::io;
+use std::io::{Print, Read};
 
 // One byte more than the largest store has: more input than that makes no difference.
 const INPUT_ROOM: usize = LARGEST_STORE + 1;
@@ -18,37 +18,33 @@ fn space() -> [u8; INPUT_ROOM]
     [0; INPUT_ROOM]
 }
 
-// Reads until the buffer is full or the input ends, however it arrives, and answers how many bytes there are.
-fn read(buffer: &mut [u8]) -> usize
-    ensures { IsPrefixLen result buffer.new }
+// Reads until the buffer is full or the input ends, however it arrives, and answers how many bytes there are. A read that fails ends it.
+fn read<R: Read>(input: &mut R, buffer: &mut [u8]) -> io::Result<usize>
+    ensures { IfOk result (λ n. n ≤ length buffer.new) }
 {
-    let mut chunk_space = io::buffer();
-    let chunk: &mut [u8] = &mut chunk_space;
+    let mut chunk = [0u8; 4096];
     let mut have: usize = 0;
     while have < buffer.len() {
-        let n = io::count(libc::read(STDIN_FILENO, chunk), chunk);
+        let n = input.read(&mut chunk)?;
         if n == 0 {
-            return have;
+            return Ok(have);
         }
         have = report_input::add(buffer, have, &chunk[..n]);
     }
-    have
+    Ok(have)
 }
 
 // Writes the catalogue of the bytes. A text's room is enough for each.
-fn write(store: &[u8]) {
-    let mut out = [0u8; ROOM];
-    let answer = report_catalogue::catalogue(store, &mut out);
-    match answer {
-        Report::Text { length } => {
-            io::write_all(STDOUT_FILENO, &out[..length as usize]);
-        }
-        Report::Short { length: _ } => {}
+fn write<P: Print>(out: &P, store: &[u8]) -> io::Result<()> {
+    let mut text = [0u8; ROOM];
+    match report_catalogue::catalogue(store, &mut text) {
+        Report::Text { length } => out.write_all(&text[..length as usize]),
+        Report::Short { length: _ } => Ok(()),
     }
 }
 
-fn main() {
+fn main(rt: HostRuntime) -> io::Result<()> {
     let mut buffer = space();
-    let n = read(&mut buffer);
-    write(&buffer[..n]);
+    let n = read(&mut rt.stdin(), &mut buffer)?;
+    write(&rt, &buffer[..n])
 }

@@ -10,11 +10,13 @@ mod numbers;
 mod tables;
 mod writes;
 
-fn main() {
-    writes::run();
-    tables::run();
-    calls::run();
-    indexes::run();
-    carried::run();
-    indexed::run();
+use std::io;
+
+fn main(rt: HostRuntime) -> io::Result<()> {
+    writes::run(&rt)?;
+    tables::run(&rt)?;
+    calls::run(&rt)?;
+    indexes::run(&rt)?;
+    carried::run(&rt)?;
+    indexed::run(&rt)
 }

@@ -10,15 +10,14 @@ pub const NUMBERS: usize = 128;
 pub type Index = [[u32; MOST_BLOCKS]; COLUMNS];
 
 // Are all the numbers of two indexes the same?
+#[tactic(auto, using(crate::specs::SameNumberLaws::samenesses))]
 pub fn same(x: &Index, y: &Index) -> bool
     ensures { result ≡ same_numbers x.now y.now }
 {
-    let mut i: usize = 0;
-    while i < NUMBERS {
+    for i in 0..NUMBERS {
         if x[i / MOST_BLOCKS][i % MOST_BLOCKS] != y[i / MOST_BLOCKS][i % MOST_BLOCKS] {
             return false;
         }
-        i += 1;
     }
     true
 }

@@ -1,14 +1,15 @@
 // A line of output for each kind of answer.
 use call_answers::answer::Answer;
 use call_answers::choice::LoadChoice;
-use libc::STDOUT_FILENO;
 use report_text::Report;
+use std::io;
+use std::io::Print;
 use test_samples::bytes;
 use update_verdict::Verdict;
 
 // The verdict on the bytes, by its code or with its four numbers.
-pub fn verdict(label: &[u8], s: &[u8]) {
-    test_output::text(label);
+pub fn verdict<P: Print>(out: &P, label: &[u8], s: &[u8]) -> io::Result<()> {
+    test_output::text(out, label)?;
     let v = update_verdict::check_update(s);
     match v {
         Verdict::Good {
@@ -17,53 +18,64 @@ pub fn verdict(label: &[u8], s: &[u8]) {
             entries,
             blocks,
         } => {
-            test_output::number(b": good, T ", total);
-            test_output::number(b", data ", data);
-            test_output::number(b", entries ", entries);
-            test_output::number(b", blocks ", blocks);
-            test_output::text(b"\n");
+            test_output::number(out, b": good, T ", total)?;
+            test_output::number(out, b", data ", data)?;
+            test_output::number(out, b", entries ", entries)?;
+            test_output::number(out, b", blocks ", blocks)?;
+            test_output::text(out, b"\n")
         }
-        Verdict::BadHeader => test_output::text(b": 95\n"),
-        Verdict::BadSum => test_output::text(b": 96\n"),
+        Verdict::BadHeader => test_output::text(out, b": 95\n"),
+        Verdict::BadSum => test_output::text(out, b": 96\n"),
     }
 }
 
-fn answer(yes: bool) {
+fn answer<P: Print>(out: &P, yes: bool) -> io::Result<()> {
     if yes {
-        test_output::text(b": yes\n");
+        test_output::text(out, b": yes\n")
     } else {
-        test_output::text(b": no\n");
+        test_output::text(out, b": no\n")
     }
 }
 
-pub fn covers(label: &[u8], s: &[u8], signature: u32, platform: u32) {
-    test_output::text(label);
-    answer(update_coverage::covers(s, signature, platform));
+pub fn covers<P: Print>(
+    out: &P,
+    label: &[u8],
+    s: &[u8],
+    signature: u32,
+    platform: u32,
+) -> io::Result<()> {
+    test_output::text(out, label)?;
+    answer(out, update_coverage::covers(s, signature, platform))
 }
 
-pub fn shares(label: &[u8], a: &[u8], b: &[u8]) {
-    test_output::text(label);
-    answer(update_sharing::shares(a, b));
+pub fn shares<P: Print>(out: &P, label: &[u8], a: &[u8], b: &[u8]) -> io::Result<()> {
+    test_output::text(out, label)?;
+    answer(out, update_sharing::shares(a, b))
 }
 
-pub fn platforms(label: &[u8], s: &[u8]) {
-    test_output::text(label);
+pub fn platforms<P: Print>(out: &P, label: &[u8], s: &[u8]) -> io::Result<()> {
+    test_output::text(out, label)?;
     test_output::number(
+        out,
         b": platforms ",
         update_coverage::platforms::platform_count(s),
-    );
-    test_output::number(b", lowest ", update_coverage::platforms::lowest_platform(s));
-    test_output::text(b"\n");
+    )?;
+    test_output::number(
+        out,
+        b", lowest ",
+        update_coverage::platforms::lowest_platform(s),
+    )?;
+    test_output::text(out, b"\n")
 }
 
 // Both versions and the checksum, as a view gives them.
-pub fn view(label: &[u8], s: &[u8]) {
-    test_output::text(label);
+pub fn view<P: Print>(out: &P, label: &[u8], s: &[u8]) -> io::Result<()> {
+    test_output::text(out, label)?;
     let v = update_view::summary(s);
-    test_output::number(b": header version ", v.header_version);
-    test_output::number(b", loader version ", v.loader_version);
-    test_output::dword(b", checksum ", v.checksum);
-    test_output::text(b"\n");
+    test_output::number(out, b": header version ", v.header_version)?;
+    test_output::number(out, b", loader version ", v.loader_version)?;
+    test_output::dword(out, b", checksum ", v.checksum)?;
+    test_output::text(out, b"\n")
 }
 
 fn wide(x: u8) -> u32 {
@@ -71,76 +83,75 @@ fn wide(x: u8) -> u32 {
 }
 
 // An answer by its codes, or with its numbers.
-pub fn reply(label: &[u8], answer: Answer) {
-    test_output::text(label);
+pub fn reply<P: Print>(out: &P, label: &[u8], answer: Answer) -> io::Result<()> {
+    test_output::text(out, label)?;
     match answer {
         Answer::Presence(a) => {
-            test_output::text(b": presence ");
+            test_output::text(out, b": presence ")?;
             let bytes = [
                 a.byte0, a.byte1, a.byte2, a.byte3, a.byte4, a.byte5, a.byte6, a.byte7,
             ];
-            test_output::text(&bytes);
-            test_output::number(b", loader ", a.loader_version);
-            test_output::number(b", blocks ", a.blocks);
+            test_output::text(out, &bytes)?;
+            test_output::number(out, b", loader ", a.loader_version)?;
+            test_output::number(out, b", blocks ", a.blocks)?;
         }
         Answer::Written(a) => {
-            test_output::number(b": written, start ", a.start);
-            test_output::number(b", emptied ", a.emptied);
-            test_output::number(b", emptied blocks ", a.emptied_blocks);
+            test_output::number(out, b": written, start ", a.start)?;
+            test_output::number(out, b", emptied ", a.emptied)?;
+            test_output::number(out, b", emptied blocks ", a.emptied_blocks)?;
         }
-        Answer::Control(a) => test_output::number(b": control, status ", a.status),
-        Answer::Read(a) => test_output::number(b": read, blocks ", a.blocks),
+        Answer::Control(a) => test_output::number(out, b": control, status ", a.status)?,
+        Answer::Read(a) => test_output::number(out, b": read, blocks ", a.blocks)?,
         Answer::Refused(a) => {
-            test_output::code(b": refused, AH ", wide(a.ah));
-            test_output::code(b", AL ", wide(a.al));
-            test_output::code(b", status ", a.status);
+            test_output::code(out, b": refused, AH ", wide(a.ah))?;
+            test_output::code(out, b", AL ", wide(a.al))?;
+            test_output::code(out, b", status ", a.status)?;
         }
     }
-    test_output::text(b"\n");
+    test_output::text(out, b"\n")
 }
 
 // The loading state after a call.
-pub fn loading(on: bool) {
+pub fn loading<P: Print>(out: &P, on: bool) -> io::Result<()> {
     if on {
-        test_output::text(b"  loading on\n");
+        test_output::text(out, b"  loading on\n")
     } else {
-        test_output::text(b"  loading off\n");
+        test_output::text(out, b"  loading off\n")
     }
 }
 
 // The destination after a read: its first dword, and the sum of all.
-pub fn destination(s: &[u8]) {
-    test_output::dword(b"  destination begins ", bytes_dwords::dword(s, 0));
-    test_output::dword(b", sums to ", bytes_dwords::sum(s));
-    test_output::text(b"\n");
+pub fn destination<P: Print>(out: &P, s: &[u8]) -> io::Result<()> {
+    test_output::dword(out, b"  destination begins ", bytes_dwords::dword(s, 0))?;
+    test_output::dword(out, b", sums to ", bytes_dwords::sum(s))?;
+    test_output::text(out, b"\n")
 }
 
 // A load choice, and how many data bytes it gives.
-pub fn load(label: &[u8], choice: LoadChoice, data: &[u8]) {
-    test_output::text(label);
+pub fn load<P: Print>(out: &P, label: &[u8], choice: LoadChoice, data: &[u8]) -> io::Result<()> {
+    test_output::text(out, label)?;
     match choice {
         LoadChoice::Refused { ah, al } => {
-            test_output::code(b": refused, AH ", wide(ah));
-            test_output::code(b", AL ", wide(al));
+            test_output::code(out, b": refused, AH ", wide(ah))?;
+            test_output::code(out, b", AL ", wide(al))?;
         }
-        LoadChoice::Nothing => test_output::text(b": nothing"),
+        LoadChoice::Nothing => test_output::text(out, b": nothing")?,
         LoadChoice::Chosen { start, revision } => {
-            test_output::number(b": start ", start);
-            test_output::number(b", revision ", revision);
+            test_output::number(out, b": start ", start)?;
+            test_output::number(out, b", revision ", revision)?;
         }
     }
-    test_output::text(b", data ");
-    io::print_decimal(STDOUT_FILENO, data.len() as u64);
-    test_output::text(b"\n");
+    let n = data.len();
+    println!(out; ", data {n}")
 }
 
 // The catalogue of a store.
-pub fn catalogue(s: &[u8]) {
-    let mut space = io::buffer();
-    let out: &mut [u8] = &mut space;
-    let answer = report_catalogue::catalogue(s, out);
+pub fn catalogue<P: Print>(out: &P, s: &[u8]) -> io::Result<()> {
+    let mut space = [0u8; 4096];
+    let text: &mut [u8] = &mut space;
+    let answer = report_catalogue::catalogue(s, text);
     match answer {
-        Report::Text { length } => test_output::text(bytes::first(out, length as usize)),
-        Report::Short { length: _ } => test_output::text(b"short\n"),
+        Report::Text { length } => test_output::text(out, bytes::first(text, length as usize)),
+        Report::Short { length: _ } => test_output::text(out, b"short\n"),
     }
 }

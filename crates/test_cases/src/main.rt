@@ -9,11 +9,13 @@ mod stores;
 mod verdicts;
 mod views;
 
-fn main() {
-    verdicts::run();
-    covers::run();
-    shares::run();
-    flags::run();
-    views::run();
-    stores::run();
+use std::io;
+
+fn main(rt: HostRuntime) -> io::Result<()> {
+    verdicts::run(&rt)?;
+    covers::run(&rt)?;
+    shares::run(&rt)?;
+    flags::run(&rt)?;
+    views::run(&rt)?;
+    stores::run(&rt)
 }
