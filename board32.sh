@@ -2,9 +2,9 @@
 # Makes target/ia32/libboard.a, the board's library for the IA-32 processor that MARCH names. PIC=1 makes
 # its code position-independent. A run that fails leaves no archive.
 #
-# `rt staticlib` proves the library, lowers it to one LLVM module and has the kit's clang compile that for
-# x86-64. Here rt is pointed to a folder of links to the kit, in which a clang of ours keeps the module and
-# hands on to the kit's. The kit's clang then compiles the same module once more, for IA-32.
+# `rt lib` proves the library, lowers it to one LLVM module and has the kit's clang compile that for x86-64.
+# Here it runs once more, from a folder of links to the kit, in which a clang of ours keeps the module and
+# hands on to the kit's. The kit's clang then compiles the same module for IA-32.
 set -eu
 cd "$(dirname "$0")"
 LC_ALL=C
@@ -45,13 +45,11 @@ rt=$(command -v rt) || fail "rt, of the Rattle toolchain, is not in PATH"
 for tool in awk nm objdump; do
     command -v "$tool" >/dev/null || fail "$tool is not in PATH (nm and objdump are in Debian's binutils)"
 done
-kit=${RATTLE_HOME:-$(dirname "$(dirname "$(readlink -f "$rt")")")}
-tools=on/$(uname -m)/toolchain
+kit=$(dirname "$(dirname "$(readlink -f "$rt")")")
 for tool in clang llvm-ar; do
-    [ -x "$kit/$tools/bin/$tool" ] || fail "no $tools/bin/$tool in $kit (RATTLE_HOME names the toolchain's folder)"
+    [ -x "$kit/toolchain/bin/$tool" ] || fail "no toolchain/bin/$tool beside rt, in $kit"
 done
-kit=$(cd "$kit" && pwd -P)
-clang=$kit/$tools/bin/clang
+clang=$kit/toolchain/bin/clang
 
 # ---- The proved module ----
 
@@ -59,20 +57,29 @@ work=$(mktemp -d)
 trap 'rm -rf "$work" "$archive.new"' EXIT
 trap 'exit 1' HUP INT TERM
 
-# Links what a folder of the kit holds, but for one name.
-link_all_but() { # NAME FOLDER
+proved=crates/board_c/out/libboard_c.a
+(cd crates/board_c && "$rt" lib) || fail "rt lib gave no proved library"
+cp "$proved" "$work/proved.a"
+
+# Links what a folder of the kit holds, but for some names.
+link_all_but() { # NAMES FOLDER
+    mkdir -p "$work/kit/$2"
     for thing in "$kit/$2"/*; do
-        [ "${thing##*/}" = "$1" ] || ln -s "$thing" "$work/kit/$2/"
+        case " $1 " in
+        *" ${thing##*/} "*) ;;
+        *) ln -s "$thing" "$work/kit/$2/" ;;
+        esac
     done
 }
-mkdir -p "$work/kit/$tools/bin"
-link_all_but on .
-link_all_but toolchain "${tools%/*}"
-link_all_but bin "$tools"
-link_all_but clang "$tools/bin"
+link_all_but 'bin toolchain' .
+link_all_but 'rt rtlib.py' bin
+link_all_but bin toolchain
+link_all_but clang toolchain/bin
+# rt takes the folder that its own file stands in for the kit's, behind any link.
+cp "$kit/bin/rt" "$kit/bin/rtlib.py" "$work/kit/bin/"
 
 : >"$work/modules"
-cat >"$work/kit/$tools/bin/clang" <<END
+cat >"$work/kit/toolchain/bin/clang" <<END
 #!/bin/sh
 for word; do
     case \$word in *.bc)
@@ -84,10 +91,14 @@ for word; do
 done
 exec '$clang' "\$@"
 END
-chmod +x "$work/kit/$tools/bin/clang"
+chmod +x "$work/kit/toolchain/bin/clang"
 
-RATTLE_HOME=$work/kit "$rt" staticlib board || fail "rt staticlib board gave no proved library"
-[ "$(wc -l <"$work/modules")" -eq 1 ] || fail "rt staticlib board did not compile one module"
+if ! (cd crates/board_c && "$work/kit/bin/rt" lib) >"$work/said" 2>&1; then
+    cat "$work/said" >&2
+    fail "rt lib gave no proved library the second time"
+fi
+[ "$(wc -l <"$work/modules")" -eq 1 ] || fail "rt lib did not compile one module"
+cmp -s "$proved" "$work/proved.a" || fail "rt lib gave two archives that differ"
 
 # ---- Whether the module fits IA-32 ----
 
@@ -158,7 +169,7 @@ trouble=$(awk -v needed="^($needed)$" '$2 !~ needed { printf " %s", $2 }' "$work
 # ---- The archive ----
 
 mkdir -p "${archive%/*}"
-"$kit/$tools/bin/llvm-ar" rcs "$work/libboard.a" "$work/board.o"
+"$kit/toolchain/bin/llvm-ar" rcs "$work/libboard.a" "$work/board.o"
 cp "$work/libboard.a" "$archive.new"
 mv "$archive.new" "$archive"
 code=$(nm -S -t d "$work/board.o" | awk '$3 ~ /^[tT]$/ { bytes += $2 } END { print bytes }')

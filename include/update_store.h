@@ -58,10 +58,10 @@
  * numbers on every target, whatever its size_t is.
  *
  * THE ARCHIVE `libboard.a` is built for two targets: for the board's IA-32 processors
- * (`make board32`, target/ia32), and for x86-64 hosts (`make board`, target/staticlib). Both come
- * from the same proved code and give the same answers. On IA-32 it follows the System V convention
- * of C (arguments on the stack, the result in EAX), is content with a stack aligned to 4 bytes, and
- * uses no floating-point or vector register.
+ * (`make board32`, target/ia32), and for x86-64 hosts (`make board`, target/staticlib), of level
+ * x86-64-v2 at least. Both come from the same proved code and give the same answers. On IA-32 it
+ * follows the System V convention of C (arguments on the stack, the result in EAX), is content with
+ * a stack aligned to 4 bytes, and uses no floating-point or vector register.
  *
  * EXAMPLE. Write a candidate; the board has one processor, signature 650h, platform 1:
  *

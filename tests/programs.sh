@@ -22,7 +22,7 @@ make_archives() {
 }
 
 build_host() { # NAME SOURCES
-    gcc $flags $2 target/staticlib/libboard.a -o "$host/$1"
+    gcc $flags $2 crates/board_c/out/libboard_c.a -o "$host/$1"
 }
 
 build_board() { # NAME SOURCES

@@ -1,4 +1,4 @@
-// The board's C interface: the proved calls, and their answers laid out in 16 words.
+// The board's calls: the proved calls, and their answers laid out in 16 words. board_c gives them to C.
 #![tactic(auto)]
 
 ghost use Rattle.std.specs.Prelude.{◌≡◌, length, false};
@@ -23,8 +23,7 @@ use store_index::{COLUMNS, after};
 const UNKNOWN: u32 = 0x8600;
 
 // The four D042h calls. Function and sub-function are judged first, and an unknown one is answered at once.
-#[unsafe(no_mangle)]
-pub extern "C" fn update_store_call(
+pub fn update_store_call(
     function: u32,
     sub_function: u32,
     task: u32,
@@ -78,8 +77,7 @@ pub extern "C" fn update_store_call(
 }
 
 // The load choice.
-#[unsafe(no_mangle)]
-pub extern "C" fn update_store_load(
+pub fn update_store_load(
     loading: bool,
     store: &[u8],
     signature: u32,
@@ -96,8 +94,7 @@ pub extern "C" fn update_store_load(
 }
 
 // The index of a store, all unused for a bad one. An index is lent as four columns of 32 numbers, in C as 128 words.
-#[unsafe(no_mangle)]
-pub extern "C" fn update_store_index(
+pub fn update_store_index(
     store: &[u8],
     index: &mut [[u32; MOST_BLOCKS]; COLUMNS],
     answer: &mut [u32; 16],
@@ -113,8 +110,7 @@ pub extern "C" fn update_store_index(
 }
 
 // The index after an accepted write. It is never refused.
-#[unsafe(no_mangle)]
-pub extern "C" fn update_store_index_after(
+pub fn update_store_index_after(
     old: &[[u32; MOST_BLOCKS]; COLUMNS],
     emptied: u32,
     start: u32,
@@ -134,8 +130,7 @@ pub extern "C" fn update_store_index_after(
 }
 
 // A read through an index.
-#[unsafe(no_mangle)]
-pub extern "C" fn update_store_read_indexed(
+pub fn update_store_read_indexed(
     index: &[[u32; MOST_BLOCKS]; COLUMNS],
     block: u32,
     store: &[u8],
@@ -156,8 +151,7 @@ pub extern "C" fn update_store_read_indexed(
 }
 
 // The load choice through an index.
-#[unsafe(no_mangle)]
-pub extern "C" fn update_store_load_indexed(
+pub fn update_store_load_indexed(
     loading: bool,
     index: &[[u32; MOST_BLOCKS]; COLUMNS],
     store: &[u8],

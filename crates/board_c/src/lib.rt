@@ -1,0 +1,148 @@
+// The C interface of the board's library (include/update_store.h): the calls of `board` under their C names.
+#![tactic(auto)]
+
+ghost use Rattle.std.specs.Prelude.{◌≡◌, length, false};
+ghost use Rattle.call_dispatch.specs.Call.{inputs_of, call_reply, call_store, call_destination};
+ghost use Rattle.load_choice.specs.Load.{load_choice};
+ghost use Rattle.board_call_words.specs.Words.{ax_of, answer_words, call_words};
+ghost use Rattle.board_load_words.specs.LoadWords.{load_ax, load_words};
+ghost use Rattle.store_directory.specs.Scan.{store_ok};
+ghost use Rattle.store_index.specs.Index.{index_of};
+ghost use Rattle.store_index.specs.IndexAfter.{index_after};
+ghost use Rattle.store_index.specs.IndexColumns.{columns_of, index_in};
+ghost use Rattle.call_indexed.specs.IndexCall.{index_codes};
+ghost use Rattle.call_indexed.specs.IndexedRead.{indexed_answer, indexed_bytes};
+ghost use Rattle.load_indexed.specs.IndexedLoad.{indexed_choice};
+ghost use Rattle.board_index_words.specs.IndexAnswerWords.{codes_words, codes_ax, carried_words};
+
+use store_blocks::MOST_BLOCKS;
+use store_index::COLUMNS;
+
+// The four D042h calls. Function and sub-function are judged first, and an unknown one is answered at once.
+#[unsafe(no_mangle)]
+pub extern "C" fn update_store_call(
+    function: u32,
+    sub_function: u32,
+    task: u32,
+    block: u32,
+    loading: bool,
+    store: &mut [u8],
+    signatures: &[u32],
+    platforms: &[u8],
+    candidate: &[u8],
+    read_back: u32,
+    destination: &mut [u8],
+    answer: &mut [u32; 16],
+) -> u32
+    ensures result { result ≡ ax_of (call_reply (inputs_of function sub_function task block loading store.old
+        signatures.now
+        platforms.now candidate.now read_back destination.old)).answer }
+    ensures answers { answer.new ≡ call_words (call_reply (inputs_of function sub_function task block loading
+        store.old signatures.now
+        platforms.now candidate.now read_back destination.old)) }
+    ensures stores { store.new ≡ call_store (inputs_of function sub_function task block loading
+        store.old signatures.now
+        platforms.now candidate.now read_back destination.old) }
+    ensures copies { destination.new ≡ call_destination (inputs_of function sub_function task block loading
+        store.old signatures.now
+        platforms.now candidate.now read_back destination.old) }
+{
+    board::update_store_call(
+        function,
+        sub_function,
+        task,
+        block,
+        loading,
+        store,
+        signatures,
+        platforms,
+        candidate,
+        read_back,
+        destination,
+        answer,
+    )
+}
+
+// The load choice.
+#[unsafe(no_mangle)]
+pub extern "C" fn update_store_load(
+    loading: bool,
+    store: &[u8],
+    signature: u32,
+    platform: u32,
+    answer: &mut [u32; 16],
+) -> u32
+    ensures result { result ≡ load_ax (load_choice loading store.now signature platform) }
+    ensures answers { answer.new ≡ load_words loading store.now (load_choice loading
+        store.now signature platform) }
+{
+    board::update_store_load(loading, store, signature, platform, answer)
+}
+
+// The index of a store, all unused for a bad one. An index is lent as four columns of 32 numbers, in C as 128 words.
+#[unsafe(no_mangle)]
+pub extern "C" fn update_store_index(
+    store: &[u8],
+    index: &mut [[u32; MOST_BLOCKS]; COLUMNS],
+    answer: &mut [u32; 16],
+) -> u32
+    ensures result { result ≡ codes_ax (index_codes (store_ok store.now)) }
+    ensures makes { index.new ≡ columns_of (index_of store.now) }
+    ensures answers { answer.new ≡ codes_words (index_codes (store_ok store.now)) }
+{
+    board::update_store_index(store, index, answer)
+}
+
+// The index after an accepted write. It is never refused.
+#[unsafe(no_mangle)]
+pub extern "C" fn update_store_index_after(
+    old: &[[u32; MOST_BLOCKS]; COLUMNS],
+    emptied: u32,
+    start: u32,
+    revision: u32,
+    size: u32,
+    new_index: &mut [[u32; MOST_BLOCKS]; COLUMNS],
+    answer: &mut [u32; 16],
+) -> u32
+    ensures result { result ≡ 0 }
+    ensures makes { new_index.new ≡ columns_of (index_after (index_in old.now) emptied start revision size) }
+    ensures answers { answer.new ≡ carried_words }
+{
+    board::update_store_index_after(old, emptied, start, revision, size, new_index, answer)
+}
+
+// A read through an index.
+#[unsafe(no_mangle)]
+pub extern "C" fn update_store_read_indexed(
+    index: &[[u32; MOST_BLOCKS]; COLUMNS],
+    block: u32,
+    store: &[u8],
+    destination: &mut [u8],
+    answer: &mut [u32; 16],
+) -> u32
+    ensures result { result ≡ ax_of (indexed_answer store.now (index_in index.now) block
+        (length destination.old)) }
+    ensures answers { answer.new ≡ answer_words (indexed_answer store.now (index_in index.now)
+        block (length destination.old)) false }
+    ensures copies { destination.new ≡ indexed_bytes store.now (index_in index.now) block
+        destination.old }
+{
+    board::update_store_read_indexed(index, block, store, destination, answer)
+}
+
+// The load choice through an index.
+#[unsafe(no_mangle)]
+pub extern "C" fn update_store_load_indexed(
+    loading: bool,
+    index: &[[u32; MOST_BLOCKS]; COLUMNS],
+    store: &[u8],
+    signature: u32,
+    platform: u32,
+    answer: &mut [u32; 16],
+) -> u32
+    ensures result { result ≡ load_ax (indexed_choice loading store.now (index_in index.now) signature platform) }
+    ensures answers { answer.new ≡ load_words loading store.now (indexed_choice loading
+        store.now (index_in index.now) signature platform) }
+{
+    board::update_store_load_indexed(loading, index, store, signature, platform, answer)
+}
