@@ -26,11 +26,11 @@ loop-b-preserved c =
     let st = c.loop-b.invariant.1 in (
       omega arith,
       elim c.if-next-b.branch [
-        then-next-b+in-Unused w ↦ state_named _ _ _ _ _ _ _ _ _ _ w.starts-is w.sizes-is w.count-is w.next-is
+        | then-next-b+in-Unused w ↦ state_named _ _ _ _ _ _ _ _ _ _ w.starts-is w.sizes-is w.count-is w.next-is
             (state_unused _ _ _ _ _ _ st w.if-next-b.true (slot_read _ _ _ _ _ w.from_block.ensures w.read_slot-found.ensures w.in-Unused.is))
-      | then-next-b+in-Update w ↦ state_named _ _ _ _ _ _ _ _ _ _ w.starts-is w.sizes-is w.count-is w.next-is
+        | then-next-b+in-Update w ↦ state_named _ _ _ _ _ _ _ _ _ _ w.starts-is w.sizes-is w.count-is w.next-is
             (state_update _ _ _ _ _ _ st (omega arith) w.if-next-b.true _ (slot_read _ _ _ _ _ w.from_block.ensures w.read_slot-found.ensures w.in-Update.is))
-      | else-next-b w ↦ state_named _ _ _ _ _ _ _ _ _ _ w.starts-is w.sizes-is w.count-is w.next-is (state_later _ _ _ _ _ _ st w.if-next-b.false)
+        | else-next-b w ↦ state_named _ _ _ _ _ _ _ _ _ _ w.starts-is w.sizes-is w.count-is w.next-is (state_later _ _ _ _ _ _ st w.if-next-b.false)
       ],
     )
 
