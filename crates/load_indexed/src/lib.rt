@@ -49,6 +49,7 @@ fn find_in(
 }
 
 // The choice for a processor. The store is read once; then its own index, which is lent, decides.
+#[tactic(auto, using(crate::proofs::IndexedLoadLaws::indexed_platform))]
 pub fn choose_by(
     loading: bool,
     store: &[u8],

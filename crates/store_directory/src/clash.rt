@@ -7,6 +7,7 @@ use store_blocks::MOST_BLOCKS;
 use update_coverage::Pairs;
 
 // Do two of the updates that begin at the first `count` blocks of `starts` cover a common processor? The header of each is read once.
+#[tactic(auto, using(crate::proofs::ClashLaws::clash_few))]
 pub fn clash(s: &[u8], starts: [u8; MOST_BLOCKS], count: usize) -> bool
     requires { (count ≤ 32) × HavePairs s.now starts count }
     ensures { result ≡ clash s.now starts count }

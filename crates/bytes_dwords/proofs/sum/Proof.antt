@@ -1,5 +1,5 @@
 -- `bytes_dwords::sum` meets its contract. The loop's invariant: what is summed so far, with the dwords that are left, is the whole sum.
-use Rattle.std.proofs.Common.{◌≡◌, ◌+◌, ◌-◌, ◌*◌, ◌≤◌, ◌∙◌, arith}
+use Rattle.std.proofs.Common.{◌≡◌, ◌+◌, ◌-◌, ◌*◌, ◌≤◌, ◌∙◌, arith, rules}
 use Rattle.bytes_dwords.specs.Sum.{dword_sum}
 use Rattle.bytes_dwords.specs.Summed.{summed}
 use Rattle.bytes_dwords.proofs.DwordSumLaws.{sum_start, sum_sixteen, sum_four}
@@ -36,7 +36,7 @@ loop_again c =
           c₁.add_dword-a.ensures c₂.add_dword-b.ensures c₃.add_dword-c.ensures c₄.add_dword-d.ensures
           c₅.add_dword-a-in-loop-turn.ensures c₆.add_dword-b-in-loop-turn.ensures c₇.add_dword-c-in-loop-turn.ensures c₈.add_dword-d-in-loop-turn.ensures
           c₉.add_dword-a-in-loop-turn-2.ensures c₁₀.add_dword-b-in-loop-turn-2.ensures c₁₁.add_dword-c-in-loop-turn-2.ensures c₁₂.add_dword-d-in-loop-turn-2.ensures
-          c₁₃.add_dword-a-in-loop-turn-3.ensures c₁₄.add_dword-b-in-loop-turn-3.ensures c₁₅.add_dword-c-in-loop-turn-3.ensures c.add_dword-d-in-loop-turn-3.ensures,
+          c₁₃.add_dword-a-in-loop-turn-3.ensures c₁₄.add_dword-b-in-loop-turn-3.ensures c₁₅.add_dword-c-in-loop-turn-3.ensures (search rules),
       omega (arith, c₀),
     )
 

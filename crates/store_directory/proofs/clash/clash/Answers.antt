@@ -1,11 +1,8 @@
 -- `store_directory::clash::clash` meets its contract, by the laws of the two scans.
 use Rattle.std.proofs.Common.{arith, rules, zero-le}
 use Rattle.laws.specs.Below.{any_none}
-use Rattle.store_directory.proofs.ClashLaws.{kept_none, kept_more, kept_at, clash_more, clash_apart, clash_stop, row_more, clash_done, clash_few}
+use Rattle.store_directory.proofs.ClashLaws.{kept_none, kept_more, kept_at, clash_more, clash_apart, clash_stop, row_more, clash_done}
 use Rattle.store_directory.proofs.clash.clash.Goals as goal
-
-pub returns-then-count-lt2 : goal.returns-then-count-lt2
-returns-then-count-lt2 c = clash_few _ _ _ c.if-count-lt2.true
 
 pub scan-init : goal.scan-init
 scan-init c = search (rules, any_none, kept_none)

@@ -20,33 +20,6 @@ put_line-requires c κs =
     let l = t.before.loop-left in
     (clear_inside _ l.b l.left (omega arith) l.invariant.1.0 t.loop-left-test.true, l.invariant.0.long)
 
-loop_again : tie.Need-loop-left-preserved-then-left-eq1 invariant-loop-left decreases-loop-left
-loop_again c =
-    let i = c.before.before in
-    let t = i.before in
-    let l = t.before.loop-left in
-    let b = clear_inside _ l.b l.left (omega arith) l.invariant.1.0 t.loop-left-test.true in
-    (clear_set _ _ l.b l.left l.invariant.1.0 _ l.invariant.0 i.if-left-eq1.true _ c.put_line.ensures, (clear_left _ l.b l.left l.invariant.1.0, omega (arith, b)))
-
-loop_again_2 : tie.Need-loop-left-preserved invariant-loop-left decreases-loop-left
-loop_again_2 c =
-    let t = c.before in
-    let l = t.before.loop-left in
-    let b = clear_inside _ l.b l.left (omega arith) l.invariant.1.0 t.loop-left-test.true in
-    (clear_unset _ _ l.b l.left l.invariant.1.0 _ l.invariant.0 c.if-left-eq1.false, (clear_left _ l.b l.left l.invariant.1.0, omega (arith, b)))
-
-loop_less : tie.Need-loop-left-smaller-then-left-eq1 invariant-loop-left decreases-loop-left
-loop_less c =
-    let t = c.before.before.before in
-    let l = t.before.loop-left in
-    omega (arith, clear_inside _ l.b l.left (omega arith) l.invariant.1.0 t.loop-left-test.true)
-
-loop_less_2 : tie.Need-loop-left-smaller invariant-loop-left decreases-loop-left
-loop_less_2 c =
-    let t = c.before in
-    let l = t.before.loop-left in
-    omega (arith, clear_inside _ l.b l.left (omega arith) l.invariant.1.0 t.loop-left-test.true)
-
 returns : tie.Need-returns invariant-loop-left decreases-loop-left
 returns c = let l = c.before.loop-left in clear_done _ _ l.b l.left _ (omega arith) l.invariant.1.0 c.loop-left-test.false l.invariant.0
 
@@ -62,9 +35,23 @@ clear_lines_spec =
     (λ c. let z = c.low_zeros-zeros.ensures in (clear_none _ _ _ z c.before.requires, (refl, omega (arith, low_few _ _ z))))
     put_line-requires
     (λ c. omega arith)
-    loop_less
-    loop_again
+    (λ c.
+    let t = c.before.before.before in
+    let l = t.before.loop-left in
+    omega (arith, clear_inside _ l.b l.left (omega arith) l.invariant.1.0 t.loop-left-test.true))
+    (λ c.
+    let t = c.before.before.before in
+    let l = t.before.loop-left in
+    let b = clear_inside _ l.b l.left (omega arith) l.invariant.1.0 t.loop-left-test.true in
+    (clear_set _ _ l.b l.left l.invariant.1.0 _ l.invariant.0 (omega arith) _ c.put_line.ensures, (clear_left _ l.b l.left l.invariant.1.0, omega (arith, b))))
     (λ c. omega arith)
-    loop_less_2
-    loop_again_2
+    (λ c.
+    let t = c.before in
+    let l = t.before.loop-left in
+    omega (arith, clear_inside _ l.b l.left (omega arith) l.invariant.1.0 t.loop-left-test.true))
+    (λ c.
+    let t = c.before in
+    let l = t.before.loop-left in
+    let b = clear_inside _ l.b l.left (omega arith) l.invariant.1.0 t.loop-left-test.true in
+    (clear_unset _ _ l.b l.left l.invariant.1.0 _ l.invariant.0 (λ e. omega (arith, e)), (clear_left _ l.b l.left l.invariant.1.0, omega (arith, b))))
     returns)
