@@ -98,15 +98,53 @@ if ! (cd crates/board_c && "$work/kit/bin/rt" lib) >"$work/said" 2>&1; then
     fail "rt lib gave no proved library the second time"
 fi
 [ "$(wc -l <"$work/modules")" -eq 1 ] || fail "rt lib did not compile one module"
-cmp -s "$proved" "$work/proved.a" || fail "rt lib gave two archives that differ"
+
+# Compiles with the kit's words, and further ones behind them.
+compile() { # MODULE OBJECT WORDS
+    module=$1 object=$2
+    shift 2
+    further=$#
+    while IFS= read -r word; do
+        case $word in
+        *.bc) word=$module ;;
+        *.o) word=$object ;;
+        esac
+        set -- "$@" "$word"
+    done <"$work/words"
+    while [ "$further" -gt 0 ]; do
+        set -- "$@" "$1"
+        shift
+        further=$((further - 1))
+    done
+    "$clang" "$@"
+}
 
 # ---- Whether the module fits IA-32 ----
 
 "$clang" --no-default-config -S -emit-llvm -Xclang -disable-llvm-passes -x ir "$work/module.bc" -o "$work/text.ll"
 
+# A function that returns a slice loads it whole, as a pointer and a number. Here the two are loaded apart,
+# each from where the module puts it: on IA-32 the number of such a pair would stand at byte 4.
+awk '
+    /^  %[^ ]+ = load [{] ptr, i64 [}], ptr %[^ ]+ align 8$/ {
+        print "  " $1 ".start = load ptr, ptr " $9 " align 8"
+        print "  " $1 ".at = getelementptr i8, ptr " $9 " i64 8"
+        print "  " $1 ".length = load i64, ptr " $1 ".at, align 8"
+        print "  " $1 ".half = insertvalue { ptr, i64 } poison, ptr " $1 ".start, 0"
+        print "  " $1 " = insertvalue { ptr, i64 } " $1 ".half, i64 " $1 ".length, 1"
+        next
+    }
+    { print }
+' "$work/text.ll" >"$work/apart.ll"
+
+"$kit/toolchain/bin/llvm-ar" p "$work/proved.a" >"$work/proved.o"
+compile "$work/apart.ll" "$work/apart.o" -Wno-override-module
+cmp -s "$work/apart.o" "$work/proved.o" || fail "the module gives other code for x86-64 than the archive has"
+
 # A pointer has 4 bytes here, and the module keeps 8 for it. That makes no difference as long as offsets
 # are counted in bytes and a pointer is loaded and stored as one: alone in a slot of its own, or as the
-# first half of a slice, which is 16 bytes with the length at byte 8. Floating point would round otherwise.
+# first half of a slice, which is 16 bytes with the length at byte 8. A struct is loaded or stored whole
+# only if each member has at most 4 bytes, so that it lies alike. Floating point would round otherwise.
 trouble=$(awk '
     function refuse(why) { print why ":" line; exit }
     function is(name, what) { return (name in slot) && slot[name] == what }
@@ -116,9 +154,13 @@ trouble=$(awk '
         else if (is(address, "pointer")) refuse("a pointer taken for a number")
         else parts[address] = 1
     }
-    { line = $0; gsub(/[,()]/, " ") }
+    function slice_after(word) { gsub(word " [{] ptr +i64 [}]", word " slice") }
+    { line = $0; gsub(/[,()]/, " "); gsub(/[{]( +i(8|16|32))+ +[}]/, "numbers") }
+    { slice_after("ret"); slice_after("extractvalue"); slice_after("insertvalue") }
+    { gsub(/[{] ptr +i64 [}] @/, "slice @") }
     /ptrtoint|inttoptr|addrspacecast/ { refuse("a pointer becomes a number") }
     / (half|bfloat|float|double|fp128|x86_fp80) / { refuse("floating point") }
+    / = (load|alloca) .*[{]|^ *store .*[{]/ { refuse("a struct in memory") }
     /^@.* ptr|x ptr[]>]|[{].* ptr/ { refuse("a pointer inside another type") }
     /^define/ { split("", slot); split("", holds); split("", parts) }
     /alloca ptr/ { slot[$1] = "pointer"; next }
@@ -130,28 +172,21 @@ trouble=$(awk '
     /@llvm\.mem/ && !/ i64 16 / { for (i = 1; i <= NF; i++) parts[$i] = 1 }
     { for (i = 1; i <= NF; i++) if (is($i, "pointer")) refuse("a pointer to a pointer") }
     /^}/ { for (name in holds) if (name in parts) refuse("a slice taken apart, " name) }
-' "$work/text.ll")
+' "$work/apart.ll")
 [ -z "$trouble" ] || fail "the module does not fit IA-32: $trouble"
 
 # ---- The code: the kit's words, another target ----
 
 # Each function names the processor that it was made for, and no option overrides that. The flag says that
 # a caller's stack is aligned to 4 bytes and no more.
-sed 's/ "\(target-cpu\|tune-cpu\|target-features\)"="[^"]*"//g' "$work/text.ll" >"$work/module.ll"
+sed 's/ "\(target-cpu\|tune-cpu\|target-features\)"="[^"]*"//g' "$work/apart.ll" >"$work/module.ll"
 cat >>"$work/module.ll" <<'END'
 !llvm.module.flags = !{!1000000}
 !1000000 = !{i32 1, !"override-stack-alignment", i32 4}
 END
 
-set --
-while IFS= read -r word; do
-    case $word in
-    *.bc) word=$work/module.ll ;;
-    *.o) word=$work/board.o ;;
-    esac
-    set -- "$@" "$word"
-done <"$work/words"
-"$clang" "$@" --target=i386-unknown-linux-gnu "-march=$march" "$pic" -Wno-override-module -fstack-usage
+compile "$work/module.ll" "$work/board.o" --target=i386-unknown-linux-gnu "-march=$march" "$pic" \
+    -Wno-override-module -fstack-usage
 
 objdump -d --no-show-raw-insn "$work/board.o" >"$work/code"
 grep -q 'file format elf32-i386' "$work/code" || fail "the code is not for IA-32"
