@@ -1,6 +1,6 @@
 -- What presence and a read leave alone.
 --   presence_coded, read_coded    the answers' codes are right
---   coded, plan_coded, answered_coded    so are those of a plan
+--   plan_coded, answered_coded    so are those of a plan
 --   answered_refused              a plan that refuses changes no byte of the destination
 --   read_refused     a refused read changes no byte of the destination
 --   read_kept        the destination is as it was, or the read was done

@@ -1,5 +1,5 @@
--- What presence and a read leave alone.
---   coded, plan_coded, answered_coded    so are those of a plan
+-- What a plan of a read refuses with.
+--   coded    a code that is not SUCCESS
 use Rattle.std.specs.Prelude.{Bool, true, not, eqb}
 use Rattle.call_answers.specs.Codes.{success}
 use Rattle.call_reads.specs.declared.read.ReadPlan.{ReadPlan}

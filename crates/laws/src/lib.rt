@@ -1,2 +1,2 @@
-// General laws, in specs/. This crate has no code.
+// General laws, in specs/ and proofs/. This crate has no code.
 #![tactic(auto)]

@@ -1,2 +1,2 @@
-// What a processor loads after a write, in specs/. This crate has no code.
+// What a processor loads after a write, in specs/ and proofs/. This crate has no code.
 #![tactic(auto)]

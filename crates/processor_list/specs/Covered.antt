@@ -1,6 +1,6 @@
 -- Which listed processors an update covers, kept in an array of eight beside the list.
---   needed_by_marks             the update covers listed processor i, which the marks say the candidate doesn't
---   Covered                 the marks are right for all listed processors
+--   needed_by_marks    the update covers listed processor i, which the marks say the candidate doesn't
+--   Covered            the marks are right for all listed processors
 use Rattle.std.specs.Prelude.{ℕ, Bool, false, not, ◌&&◌, List, length}
 use Rattle.laws.specs.Arrays.{Filled, mark_at}
 use Rattle.processor_list.specs.Processors.{ProcessorList, covers_listed}

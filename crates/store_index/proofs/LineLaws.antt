@@ -15,7 +15,7 @@ use Rattle.std.proofs.Math.Logic.{⊎_elim, inl, inr}
 use Rattle.laws.specs.Bools.{no_true}
 use Rattle.laws.specs.Below.{any_below, any_at, any_fails}
 use Rattle.laws.specs.Span.{Spans, spans_law}
-use Rattle.laws.specs.Tabulate.{get_d_tabulate, is_tabulate}
+use Rattle.laws.specs.Tabulate.{get_or_tabulate, is_tabulate}
 use Rattle.store_blocks.specs.Blocks.{block_count}
 use Rattle.store_directory.specs.Scan.{first, store_ok, directory}
 use Rattle.store_directory.specs.Kind.{kind_if, owns_at}
@@ -102,4 +102,4 @@ module _ (f : ℕ → Line) where
 
   pub line_by : (c : ℕ) → c < 32 → line_of (index_by f) c ≡ f c
   unfolding index_by line_of
-  line_by c l = rw (get_d_tabulate 32 (kind_of f) c l, get_d_tabulate 32 (start_of f) c l, get_d_tabulate 32 (revision_in f) c l, get_d_tabulate 32 (size_of f) c l)
+  line_by c l = rw (get_or_tabulate 32 (kind_of f) c l, get_or_tabulate 32 (start_of f) c l, get_or_tabulate 32 (revision_in f) c l, get_or_tabulate 32 (size_of f) c l)

@@ -15,7 +15,7 @@
 use Rattle.std.specs.Prelude.{ℕ, zero, suc, cond, List, get_or, replicate, eqb, ltb}
 use Rattle.laws.specs.Tabulate.{tabulate}
 use Rattle.laws.specs.Unless.{unless}
-use Rattle.update_header.specs.Fields.{revision as revisionOf}
+use Rattle.update_header.specs.Fields.{revision as revision_of}
 use Rattle.store_blocks.specs.Blocks.{from_block, block_count}
 use Rattle.store_directory.specs.Scan.{first as begins-update, size_at, store_ok}
 use Rattle.store_directory.specs.Kind.{kind_at}
@@ -44,7 +44,7 @@ owner_at s zero = 0
 owner_at s (suc b) = cond (begins-update s (suc b)) (suc b) (owner_at s b)
 
 unfoldable pub stored_line : List ℕ → ℕ → ℕ → Line
-stored_line s a b = update_line a (revisionOf (from_block s a)) (size_at s a) b
+stored_line s a b = update_line a (revision_of (from_block s a)) (size_at s a) b
 
 unfoldable pub line_of_kind : List ℕ → ℕ → Kind → Line
 line_of_kind s b Unused = unused_line

@@ -58,7 +58,7 @@ Code d t n ah = (s : List ℕ) → data_size s ≡ d → total_size s ≡ t → 
 
 pub record Starred : Type 0 where
   pub p_is_valid : verdict (p 7 0xF8E7E009) ≡ Good 2048 2000 0 1
-  pub p_with_checksum_F8_e7_e00_a : code_of (p 7 0xF8E7E00A) ≡ invalid_header_cs
+  pub p_with_checksum_f8e7e00a : code_of (p 7 0xF8E7E00A) ≡ invalid_header_cs
   -- revision 8 needs F8E7E008h: with any other checksum the same bytes are 96
   pub p_with_revision_8 : verdict (p 8 0xF8E7E008) ≡ Good 2048 2000 0 1
   pub revision_8_needs : (c : ℕ) → c < 2 ^ 32 → (c ≢ 0xF8E7E008) → code_of (p 8 c) ≡ invalid_header_cs

@@ -91,7 +91,7 @@ unfolding p bytes verdict unless header_ok sizes_fit sums_ok table dword_sum dwo
 starred =
     record {
       p_is_valid = refl;
-      p_with_checksum_F8_e7_e00_a = refl;
+      p_with_checksum_f8e7e00a = refl;
       p_with_revision_8 = refl;
       revision_8_needs = checked;
       p_covers_650_1 = refl;

@@ -1,6 +1,6 @@
 -- Laws of views.
 --   viewing         the bytes of a view by the verdict, as `search` takes them
---   Seen, seen      the view of a good update is that update: its verdict, fields, sizes and data
+--   seen            the view of a good update is that update: its verdict, fields, sizes and data
 --   only_good       a view holds bytes only of a good update
 --   holds_update    a view of s holds bytes exactly if an update begins s
 use Rattle.std.specs.Prelude.{ℕ, ◌+◌, ◌≤◌, ◌≡◌, refl, true, List, length, get_or, take, drop}

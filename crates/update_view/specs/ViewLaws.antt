@@ -1,5 +1,5 @@
--- Laws of views.
---   Seen, seen      the view of a good update is that update: its verdict, fields, sizes and data
+-- What a view of a good update holds.
+--   Seen    the view of a good update is that update: its verdict, fields, sizes and data
 use Rattle.std.specs.Prelude.{ℕ, ◌≡◌, true, List, length}
 use Rattle.update_header.specs.Fields.{version, revision, date, signature, checksum, loader_version, flags}
 use Rattle.update_header.specs.DataPart.{data_part}

@@ -10,7 +10,7 @@ use Rattle.std.proofs.Common.{sym, ap, ◌∙◌, leb-true, arith, ext_get_or}
 use Rattle.std.proofs.Math.Bool.{false, true≢false}
 use Rattle.std.proofs.Math.Dec.{leb}
 use Rattle.processor_list.specs.Processors.{ProcessorList}
-use Rattle.laws.specs.Tabulate.{get_d_tabulate}
+use Rattle.laws.specs.Tabulate.{get_or_tabulate}
 use Rattle.laws.specs.Bools.{and_parts, no_true}
 use Rattle.std.proofs.Math.ListN.{get_or}
 use Rattle.laws.specs.Arrays.{Filled}
@@ -60,8 +60,8 @@ outcome_same old t cand start e f h long =
     ext_get_or 0 (outcome_bytes old t cand start e) (outcome_bytes old t cand start f) (outcome_length old t cand start e ∙ sym (outcome_length old t cand start f))
     (λ i l.
     let m : i < length old = omega (arith, outcome_length old t cand start e) in
-    get_d_tabulate (length old) (outcome_byte old t cand start e) i m ∙ byte i m (in_run start (blocks_of t) (i / 2048)) refl
-    ∙ sym (get_d_tabulate (length old) (outcome_byte old t cand start f) i m))
+    get_or_tabulate (length old) (outcome_byte old t cand start e) i m ∙ byte i m (in_run start (blocks_of t) (i / 2048)) refl
+    ∙ sym (get_or_tabulate (length old) (outcome_byte old t cand start f) i m))
   where
     byte : (i : ℕ) → i < length old → (r : Bool) → in_run start (blocks_of t) (i / 2048) ≡ r → outcome_byte old t cand start e i ≡ outcome_byte old t cand start f i
     byte i m true q = rw q

@@ -2,7 +2,7 @@
 --   answers         the answer of check 9
 --   left            the bytes of the store afterwards
 --   planned_same, absent_same      the same of a plan that a definition gives
---   Meant, meant, meant_refused    the whole contract of the write, from a plan; from a refusal of checks 1 to 4
+--   meant, meant_refused           the whole contract of the write, from a plan; from a refusal of checks 1 to 4
 use Rattle.std.specs.Prelude.{ℕ, ◌≡◌, List}
 use Rattle.std.proofs.Math.Path.{refl, sym, ap}
 use Rattle.std.proofs.Common.{◌∙◌}

@@ -1,5 +1,5 @@
--- Check 9 and the bytes, by cases of the plan, as `search` takes them.
---   Meant, meant, meant_refused    the whole contract of the write, from a plan; from a refusal of checks 1 to 4
+-- What the write is meant to do.
+--   Meant    the whole contract of the write
 use Rattle.std.specs.Prelude.{ℕ, ◌≡◌, List}
 use Rattle.processor_list.specs.Processors.{ProcessorList}
 use Rattle.call_answers.specs.declared.answer.Answer.{Answer}

@@ -13,7 +13,7 @@ use Rattle.laws.specs.Span.{spans, spans_law}
 use Rattle.laws.specs.Bools.{and_parts, no_true}
 use Rattle.laws.specs.Below.{any_at, any_stop, any_cong}
 use Rattle.laws.specs.Unless.{unless}
-use Rattle.laws.specs.Tabulate.{length_tabulate, get_d_tabulate}
+use Rattle.laws.specs.Tabulate.{length_tabulate, get_or_tabulate}
 use Rattle.update_sizes.specs.Sizes.{blocks_of}
 use Rattle.store_directory.specs.Scan.{size_at, first}
 use Rattle.store_directory.specs.Valid.{Owned}
@@ -67,7 +67,7 @@ module _ (old : List ℕ) (t : ℕ) (cand : List ℕ) (start : ℕ) (e : ℕ →
   module _ (c i : ℕ) (l : i < length old) (q : i / 2048 ≡ c) where
     outcome_at_lem : get_or (outcome_bytes old t cand start e) i 0 ≡ unless (in_run start (blocks_of t) c) (cleared_byte old e i) (run_byte t cand (i - start * 2048))
     unfolding outcome_bytes outcome_byte
-    outcome_at_lem = get_d_tabulate (length old) (outcome_byte old t cand start e) i l ∙ rw q
+    outcome_at_lem = get_or_tabulate (length old) (outcome_byte old t cand start e) i l ∙ rw q
 
     pub outcome_run : in_run start (blocks_of t) c ≡ true → get_or (outcome_bytes old t cand start e) i 0 ≡ run_byte t cand (i - start * 2048)
     unfolding unless

@@ -15,7 +15,7 @@ use Rattle.std.proofs.Math.Seq.{ext_get_or}
 use Rattle.laws.specs.Bools.{no_true}
 use Rattle.laws.specs.Orders.{le_or_lt}
 use Rattle.laws.specs.Unless.{unless}
-use Rattle.laws.specs.Tabulate.{length_tabulate, get_d_tabulate}
+use Rattle.laws.specs.Tabulate.{length_tabulate, get_or_tabulate}
 use Rattle.bytes_copy.specs.Paste.{put_at, fill_at, put_long, put_low, put_mid, put_high, fill_long, fill_out, fill_mid}
 use Rattle.update_sizes.specs.Sizes.{blocks_of}
 use Rattle.store_directory.specs.Scan.{size_at, first}
@@ -30,7 +30,7 @@ module _ (old : List ℕ) where
 
   cleared_at : (e : ℕ → Bool) (i : ℕ) → i < length old → get_or (cleared old e) i 0 ≡ cleared_byte old e i
   unfolding cleared
-  cleared_at e i l = get_d_tabulate (length old) (cleared_byte old e) i l
+  cleared_at e i l = get_or_tabulate (length old) (cleared_byte old e) i l
 
   pub cleared_none : (e : ℕ → Bool) → ((b : ℕ) → e b ≡ false) → old ≡ cleared old e
   unfolding cleared_byte unless
