@@ -156,6 +156,7 @@ fn block_bits(start: u8, size: u8) -> u32
 }
 
 // Bit b for each block b of an update that is emptied if the candidate goes to `s`, in the run or not.
+#[tactic(auto, using(crate::specs::EmptiedBits::gathering), unfolding(crate::specs::Against::emptied_by_number, crate::specs::StoredMarks::stored_of))]
 pub fn emptied_blocks<'a>(
     starts: &'a [u8; MOST_BLOCKS],
     sizes: &'a [u8; MOST_BLOCKS],

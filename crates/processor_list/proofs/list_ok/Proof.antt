@@ -3,6 +3,7 @@ use mathlib.Core.Path.{◌≡◌}
 use mathlib.Core.Bool.{true}
 use Prim.Native.Nat.{◌≤◌, ◌-◌}
 use lib.ListN.{length}
+use native.Mathlib.Omega.{arith}
 use borrow.Author.Rules.{rules}
 use Rattle.laws.specs.Below.{all_below}
 use Rattle.laws.specs.Loops.{each}
@@ -25,7 +26,7 @@ list_ok_spec =
     decreases-loop-i
     (λ c. search list_tests)
     (λ c. search list_tests)
-    (λ c. search list_tests)
+    (λ c. search (arith, list_tests))
     (λ c. search (rules, each))
     (λ c κs. search rules)
     (λ c. search rules)

@@ -13,5 +13,5 @@ names_spec =
     (tie.spec
     (λ c. omega arith)
     (λ c. omega arith)
-    (λ c. search cases)
+    (λ c. search (arith, cases))
     (λ c. search cases))

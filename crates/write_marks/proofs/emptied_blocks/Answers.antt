@@ -13,10 +13,6 @@ pub block_bits-bits-requires : goal.block_bits-bits-requires
 unfolding stored_of
 block_bits-bits-requires c = let fit = c.requires.1 in (fit.some _ c.loop-i-test.true, fit.inside _ c.loop-i-test.true)
 
-pub loop-i-preserved-then-is_emptied : goal.loop-i-preserved-then-is_emptied
-unfolding emptied_by_number touches_by_number stored_of
-loop-i-preserved-then-is_emptied c = (omega arith, search gathering)
-
 pub loop-i-preserved : goal.loop-i-preserved
 unfolding emptied_by_number touches_by_number stored_of
 loop-i-preserved c = (omega arith, search gathering)

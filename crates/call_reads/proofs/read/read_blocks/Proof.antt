@@ -1,4 +1,5 @@
 -- `call_reads::read::read_blocks` meets its contract: one branch.
+use native.Mathlib.Omega.{arith}
 use borrow.Author.Rules.{rules}
 use Rattle.laws.specs.Tests.{cases}
 use Rattle.laws.specs.Unless.{unless}
@@ -12,5 +13,5 @@ read_blocks_spec =
     tie.close
     (tie.spec
     (search rules)
-    (λ c. search cases)
+    (λ c. search (arith, cases))
     (λ c. search cases))
