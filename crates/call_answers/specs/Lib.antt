@@ -1,4 +1,5 @@
 -- The answers (document 01, "Codes"): definitions, then laws.
 pub mod Codes
 pub mod Answers
+pub mod Refusals
 pub mod AnswerLaws

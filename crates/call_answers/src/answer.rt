@@ -1,6 +1,9 @@
 // The answers of the calls: an enum with a struct in each case, which holds the codes and the case's numbers.
 ghost use Rattle.std.specs.Prelude.{◌≡◌};
 ghost use Rattle.call_answers.specs.Answers.{refusal};
+ghost use Rattle.call_answers.specs.Refusals.{refused};
+
+use crate::refusal::Refusal;
 
 // The bytes INTE and LPEP, the loader version, the number of blocks.
 #[derive(Clone, Copy)]
@@ -84,4 +87,12 @@ pub fn refuse(ah: u8, al: u8) -> Answer
         carry: true,
         status: 0,
     })
+}
+
+impl From<Refusal> for Answer {
+    ghost from_gives = { λ r a. a ≡ refused r };
+
+    fn from(r: Refusal) -> Self {
+        refuse(r.ah(), r.al())
+    }
 }

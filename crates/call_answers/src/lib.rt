@@ -4,3 +4,4 @@
 pub mod answer;
 pub mod choice;
 pub mod code;
+pub mod refusal;
