@@ -1,3 +1,3 @@
--- Control (document 01, "The calls", 2), which looks at no store: definitions, then laws.
+-- Control (document 01, "The calls", 2), which looks at no store: the tasks, then the definitions.
+pub mod Tasks
 pub mod Control
-pub mod ControlLaws
