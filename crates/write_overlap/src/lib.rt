@@ -10,64 +10,40 @@ ghost use Rattle.write_overlap.specs.Overlap.{touches, is_emptied, rules_out, lo
 fn touches(start: u8, size: u8, k: u32, s: u32) -> bool
     ensures { result ≡ touches start size k s }
 {
-    if (s as usize) < start as usize + size as usize {
-        (start as usize) < s as usize + k as usize
-    } else {
-        false
-    }
+    (s as usize) < start as usize + size as usize && (start as usize) < s as usize + k as usize
 }
 
 // Is the update emptied if the candidate goes to `s`?
 pub fn is_emptied(start: u8, size: u8, shares: bool, k: u32, s: u32) -> bool
     ensures { result ≡ is_emptied start size shares k s }
 {
-    if shares {
-        true
-    } else {
-        touches(start, size, k, s)
-    }
+    shares || touches(start, size, k, s)
 }
 
 // Would the update be emptied, and must it not be?
 pub fn rules_out(start: u8, size: u8, shares: bool, needed: bool, k: u32, s: u32) -> bool
     ensures { result ≡ rules_out start size shares needed k s }
 {
-    if needed {
-        is_emptied(start, size, shares, k, s)
-    } else {
-        false
-    }
+    needed && is_emptied(start, size, shares, k, s)
 }
 
 // Is the update touched, and does it not share?
 pub fn loses(start: u8, size: u8, shares: bool, k: u32, s: u32) -> bool
     ensures { result ≡ loses start size shares k s }
 {
-    if shares {
-        false
-    } else {
-        touches(start, size, k, s)
-    }
+    !shares && touches(start, size, k, s)
 }
 
 // Are all blocks of the update blocks of the run?
 fn within(start: u8, size: u8, k: u32, s: u32) -> bool
     ensures { result ≡ within start size k s }
 {
-    if s as usize <= start as usize {
-        start as usize + size as usize <= s as usize + k as usize
-    } else {
-        false
-    }
+    s as usize <= start as usize && start as usize + size as usize <= s as usize + k as usize
 }
 
 // Is the update emptied, and are not all of its blocks the run's?
 pub fn fills(start: u8, size: u8, shares: bool, k: u32, s: u32) -> bool
     ensures { result ≡ fills start size shares k s }
 {
-    if within(start, size, k, s) {
-        false
-    } else {
-        is_emptied(start, size, shares, k, s)
-    }
+    !within(start, size, k, s) && is_emptied(start, size, shares, k, s)
 }
