@@ -6,9 +6,8 @@ use Rattle.std.proofs.Common.{◌∙◌, arith}
 use Rattle.laws.specs.Same.{Same}
 use Rattle.update_header.specs.DataPart.{data_part}
 use Rattle.update_header.specs.DataPartLaws.{part_same}
-use Rattle.update_verdict.specs.Verdict.{verdict}
+use Rattle.update_verdict.specs.Verdict.{Good, verdict}
 use Rattle.update_verdict.specs.VerdictLaws.{judged, good_size}
-use Rattle.update_verdict.specs.declared.Verdict.TheVariants.{Good}
 use Rattle.store_blocks.specs.Blocks.{from_block}
 use Rattle.load_choice.specs.Load.{chosen_data}
 use Rattle.call_answers.specs.declared.choice.LoadChoice.{LoadChoice}

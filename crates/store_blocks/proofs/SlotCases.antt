@@ -2,16 +2,16 @@
 --   fitting      the cases of `fits`, as `search` takes them
 --   slotting     the cases of `slot_of`, as `search` takes them
 --   good_dwords  a good update is whole dwords
-use Rattle.std.specs.Prelude.{ℕ, ◌*◌, ◌-◌, ◌%◌, ◌<◌, ◌≤◌, ◌≡◌, Bool, false, List, length}
+use Rattle.std.specs.Prelude.{ℕ, ◌*◌, ◌-◌, ◌%◌, ◌<◌, ◌≤◌, ◌≡◌, Bool, false, List, length, Ok, Err}
 use Rattle.std.proofs.Common.{sym, ◌∙◌, arith}
 use borrow.Author.Tests.{le-leb, lt-leb}
 use Rattle.laws.specs.Unless.{unless, checks}
 use Rattle.update_sizes.specs.Sizes.{blocks_of}
 use Rattle.update_header.specs.Inside.{inside}
-use Rattle.update_verdict.specs.Verdict.{verdict}
+use Rattle.update_verdict.specs.Verdict.{Verdict, verdict}
 use Rattle.update_verdict.specs.VerdictLaws.{judged}
-use Rattle.update_verdict.specs.declared.Verdict.{Verdict}
-use Rattle.update_verdict.specs.declared.Verdict.TheVariants.{Good, BadHeader, BadSum}
+use Rattle.update_verdict.specs.declared.Measures.{Measures}
+use Rattle.update_verdict.specs.declared.BadUpdate.{BadUpdate}
 use Rattle.store_blocks.specs.Blocks.{filled}
 use Rattle.store_blocks.specs.Slot.{fits, update_slot}
 use Rattle.store_blocks.specs.declared.slot.Slot.{Slot}
@@ -31,23 +31,19 @@ pub ruleset fitting = (fits_yes, fits_no)
 
 -- r is what a call answered, of which it ensures that it is v
 module _ (s : List ℕ) (r v : Verdict) (e : r ≡ v) where
-  pub slot_good : (t d n k : ℕ) (z : Slot) → r ≡ Good t d n k → z ≡ unless (fits s t) Bad (Update k) → z ≡ update_slot s v
+  pub slot_good : (m : Measures) (z : Slot) → r ≡ Ok m → z ≡ unless (fits s m.total) Bad (Update m.blocks) → z ≡ update_slot s v
   unfolding update_slot
-  slot_good t d n k z h g = rw (← e, h) g
+  slot_good m z h g = rw (← e, h) g
 
-  pub slot_header : r ≡ BadHeader → Bad ≡ update_slot s v
+  pub slot_bad : (x : BadUpdate) → r ≡ Err x → Bad ≡ update_slot s v
   unfolding update_slot
-  slot_header h = rw (← e, h)
+  slot_bad x h = rw (← e, h)
 
-  pub slot_sum : r ≡ BadSum → Bad ≡ update_slot s v
-  unfolding update_slot
-  slot_sum h = rw (← e, h)
-
-pub ruleset slotting = (checks, slot_good, slot_header, slot_sum)
+pub ruleset slotting = (checks, slot_good, slot_bad)
 
 -- a good update is whole dwords; v is what a call answered
-pub good_dwords : (s : List ℕ) (v : Verdict) (t d n k : ℕ) → v ≡ verdict s → v ≡ Good t d n k → t % 4 ≡ 0
-good_dwords s v t d n k e h =
-    let g = judged s t d n k (sym e ∙ h) in
+pub good_dwords : (s : List ℕ) (v : Verdict) (m : Measures) → v ≡ verdict s → v ≡ Ok m → m.total % 4 ≡ 0
+good_dwords s v m e h =
+    let g = judged s m.total m.data m.entries m.blocks (sym e ∙ h) in
     let z = (inside s g.sizes).sized in
     omega (arith, g.total, z.dwords, z.layout)

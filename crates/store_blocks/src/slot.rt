@@ -4,7 +4,6 @@ ghost use Rattle.update_sizes.specs.Sizes.{blocks_of};
 ghost use Rattle.store_blocks.specs.Slot.{fits, slot_of};
 
 use crate::{BLOCK, filled, unused};
-use update_verdict::Verdict;
 
 #[derive(Clone, Copy)]
 pub enum Slot {
@@ -36,21 +35,12 @@ pub fn read_slot(part: &[u8]) -> Slot
     if unused(part) {
         return Slot::Unused;
     }
-    let checked = update_verdict::check_update(part);
-    match checked {
-        Verdict::Good {
-            total,
-            data: _,
-            entries: _,
-            blocks,
-        } => {
-            if fits(part, total, blocks) {
-                Slot::Update { blocks }
-            } else {
-                Slot::Bad
-            }
-        }
-        Verdict::BadHeader => Slot::Bad,
-        Verdict::BadSum => Slot::Bad,
+    let Ok(m) = update_verdict::check_update(part) else {
+        return Slot::Bad;
+    };
+    if fits(part, m.total, m.blocks) {
+        Slot::Update { blocks: m.blocks }
+    } else {
+        Slot::Bad
     }
 }

@@ -16,8 +16,7 @@ use Rattle.update_sizes.specs.Sizes.{sizes_ok}
 use Rattle.update_sizes.proofs.SizeLaws.{plain, tabled}
 use Rattle.update_header.specs.Fields.{data_size, total_size, table_count}
 use Rattle.update_header.specs.Checks.{header_ok, sizes_fit}
-use Rattle.update_verdict.specs.Verdict.{verdict}
-use Rattle.update_verdict.specs.declared.Verdict.TheVariants.{BadHeader}
+use Rattle.update_verdict.specs.Verdict.{BadHeader, verdict}
 use Rattle.update_coverage.specs.Covers.{pair_count, covers}
 use Rattle.update_sharing.specs.Shares.{shares}
 use Rattle.store_blocks.specs.Blocks.{unused, from_block, block_count, length_ok}

@@ -16,8 +16,7 @@ use Rattle.update_sizes.specs.Sizes.{blocks_of}
 use Rattle.update_header.specs.Fields.{data_size, total_size, table_count, entry_count}
 use Rattle.update_header.specs.Checks.{header_ok}
 use Rattle.update_verdict.specs.Sums.{sums_ok}
-use Rattle.update_verdict.specs.declared.Verdict.{Verdict}
-use Rattle.update_verdict.specs.declared.Verdict.TheVariants.{Good, BadHeader, BadSum}
+use Rattle.update_verdict.specs.Verdict.{Verdict, Good, BadHeader, BadSum}
 use Rattle.update_coverage.specs.Covers.{covers_at}
 use Rattle.update_sharing.specs.Shares.{shares_at}
 use Rattle.store_blocks.specs.Blocks.{unused, from_block, block_count, length_ok}

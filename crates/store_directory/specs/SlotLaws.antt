@@ -6,7 +6,7 @@
 --   unused_filled, filled_unused    an unused slot is a block of FFh, both ways
 --   update_local, update_alike      bytes that agree on its blocks have the same slot and cover the same processors
 --   ends_inside             an update that begins at block b of n ends at n or before
-use Rattle.std.specs.Prelude.{ℕ, ◌+◌, ◌*◌, ◌-◌, ◌<◌, ◌≤◌, ◌≡◌, refl, Bool, true, false, List, length, get_or, leb}
+use Rattle.std.specs.Prelude.{ℕ, ◌+◌, ◌*◌, ◌-◌, ◌<◌, ◌≤◌, ◌≡◌, refl, Bool, true, false, List, length, get_or, leb, Ok, Err}
 use Rattle.std.proofs.Common.{sym, ◌∙◌, true≢false, arith, length-drop, leb-true, le-leb, eqb-true}
 use Rattle.laws.specs.Orders.{impossible}
 use Rattle.laws.specs.Bools.{and_parts, and_made, no_true}
@@ -16,12 +16,10 @@ use Rattle.laws.specs.Same.{Same, same_less}
 use Rattle.bytes_dwords.specs.Dword.{dword}
 use Rattle.update_sizes.specs.Sizes.{blocks_of}
 use Rattle.update_header.specs.CheckLaws.{header_parts}
-use Rattle.update_verdict.specs.Verdict.{verdict}
+use Rattle.update_verdict.specs.Verdict.{Verdict, Good, verdict}
 use Rattle.update_verdict.specs.VerdictLaws.{judged, good_size}
 use Rattle.update_verdict.specs.VerdictLocal.{verdict_local}
 use Rattle.update_sharing.specs.SharingLocal.{covers_local, Alike}
-use Rattle.update_verdict.specs.declared.Verdict.{Verdict}
-use Rattle.update_verdict.specs.declared.Verdict.TheVariants.{Good, BadHeader, BadSum}
 use Rattle.store_blocks.specs.Blocks.{is_ff, filled, unused, from_block}
 use Rattle.store_blocks.specs.FilledLaws.{filled_local}
 use Rattle.store_blocks.specs.Slot.{fits, update_slot, slot_of}
@@ -49,9 +47,8 @@ slotted s k e = go (unused s) (verdict s) refl e
 
     go : (f : Bool) (c : Verdict) → verdict s ≡ c → unless f (update_slot s c) Unused ≡ Update k → Slotted s k
     go true c v e = absurd (impossible (cc))
-    go false (Good t d n j) v e = inner t d n j v (fits s t) refl e
-    go false BadHeader v e = absurd (impossible (cc))
-    go false BadSum v e = absurd (impossible (cc))
+    go false (Ok m) v e = inner m.total m.data m.entries m.blocks v (fits s m.total) refl e
+    go false (Err x) v e = absurd (impossible (cc))
 
 fits_parts : (s : List ℕ) (t : ℕ) → fits s t ≡ true → (blocks_of t * 2048 ≤ length s) × (filled s t (blocks_of t * 2048 - t) ≡ true)
 unfolding fits
@@ -121,9 +118,8 @@ unused_filled s e =
 
     go : (f : Bool) (c : Verdict) → unless f (update_slot s c) Unused ≡ Unused → f ≡ true
     go true c e = refl
-    go false (Good t d n k) e = inner (fits s t) k e
-    go false BadHeader e = absurd (impossible (cc))
-    go false BadSum e = absurd (impossible (cc))
+    go false (Ok m) e = inner (fits s m.total) m.blocks e
+    go false (Err x) e = absurd (impossible (cc))
 
 -- another list that is the same as far as an update's blocks go
 module _ (s r : List ℕ) (k : ℕ) (slot : slot_of s ≡ Update k) (same : Same s r (k * 2048)) (long : k * 2048 ≤ length r) where

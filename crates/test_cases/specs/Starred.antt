@@ -8,7 +8,7 @@ use Rattle.std.specs.Prelude.{◌≡◌, ℕ, ◌/◌, ◌%◌, ◌^◌, ◌<◌
 use Rattle.update_sizes.specs.Sizes.{sizes_ok, blocks_of}
 use Rattle.update_header.specs.Fields.{data_size, total_size, table_count, entry_count}
 use Rattle.update_header.specs.Checks.{sizes_fit}
-use Rattle.update_verdict.specs.Verdict.{verdict}
+use Rattle.update_verdict.specs.Verdict.{Good, verdict}
 use Rattle.update_coverage.specs.Covers.{covers}
 use Rattle.write_marks.specs.StoredUpdates.{StoredUpdates}
 use Rattle.write_placement.specs.Choose.{choose}
@@ -17,7 +17,6 @@ use Rattle.write_plan.specs.Plan.{placed}
 use Rattle.write_plan.specs.VerdictCode.{verdict_ah}
 use Rattle.write_plan.specs.declared.Plan.{Plan}
 use Rattle.write_plan.specs.declared.Plan.TheVariants.{Run, Refuse}
-use Rattle.update_verdict.specs.declared.Verdict.TheVariants.{Good}
 
 unfoldable pub bytes : ℕ → List ℕ
 bytes x = x % 256 ∷ x / 256 % 256 ∷ x / 65536 % 256 ∷ x / 16777216 % 256 ∷ []

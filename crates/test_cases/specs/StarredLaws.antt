@@ -19,8 +19,7 @@ use Rattle.update_sizes.proofs.SizeLaws.{sizes_sized, too_long, plain}
 use Rattle.update_header.specs.Checks.{header_ok, sizes_fit}
 use Rattle.update_header.specs.Inside.{inside}
 use Rattle.update_verdict.specs.Sums.{sum_of, header_sum, entry_ok, table, sums_ok}
-use Rattle.update_verdict.specs.Verdict.{verdict}
-use Rattle.update_verdict.specs.declared.Verdict.TheVariants.{BadHeader}
+use Rattle.update_verdict.specs.Verdict.{BadHeader, verdict}
 use Rattle.update_coverage.specs.Covers.{pair_count, signature_offset, flags_offset, signature_at, flags_at, platforms_at, names, pair_covers, covers_at, covers}
 use Rattle.write_marks.specs.Against.{touches_by_number, emptied_by_number, rules_out, loses, ruled_out, lost}
 use Rattle.write_placement.specs.Choose.{choose}

@@ -5,27 +5,22 @@ use report_text::Report;
 use std::io;
 use std::io::Print;
 use test_samples::bytes;
-use update_verdict::Verdict;
+use update_verdict::BadUpdate;
 
 // The verdict on the bytes, by its code or with its four numbers.
 pub fn verdict<P: Print>(out: &P, label: &[u8], s: &[u8]) -> io::Result<()> {
     test_output::text(out, label)?;
     let v = update_verdict::check_update(s);
     match v {
-        Verdict::Good {
-            total,
-            data,
-            entries,
-            blocks,
-        } => {
-            test_output::number(out, b": good, T ", total)?;
-            test_output::number(out, b", data ", data)?;
-            test_output::number(out, b", entries ", entries)?;
-            test_output::number(out, b", blocks ", blocks)?;
+        Ok(m) => {
+            test_output::number(out, b": good, T ", m.total)?;
+            test_output::number(out, b", data ", m.data)?;
+            test_output::number(out, b", entries ", m.entries)?;
+            test_output::number(out, b", blocks ", m.blocks)?;
             test_output::text(out, b"\n")
         }
-        Verdict::BadHeader => test_output::text(out, b": 95\n"),
-        Verdict::BadSum => test_output::text(out, b": 96\n"),
+        Err(BadUpdate::Header) => test_output::text(out, b": 95\n"),
+        Err(BadUpdate::Sum) => test_output::text(out, b": 96\n"),
     }
 }
 

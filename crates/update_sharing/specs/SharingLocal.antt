@@ -9,10 +9,9 @@ use Rattle.laws.specs.Below.{any_cong}
 use Rattle.laws.specs.Same.{Same}
 use Rattle.bytes_dwords.proofs.DwordLaws.{dword_same}
 use Rattle.update_header.specs.Fields.{data_size}
-use Rattle.update_verdict.specs.Verdict.{verdict}
+use Rattle.update_verdict.specs.Verdict.{Good, verdict}
 use Rattle.update_verdict.specs.VerdictLaws.{Judged, judged}
 use Rattle.update_verdict.specs.VerdictLocal.{verdict_local, data_local}
-use Rattle.update_verdict.specs.declared.Verdict.TheVariants.{Good}
 use Rattle.update_coverage.specs.Covers.{pair_count, signature_offset, flags_offset, signature_at, flags_at, platforms_at, covers_at, covers}
 use Rattle.update_sharing.specs.Shares.{Shares}
 use Rattle.update_coverage.proofs.PairLaws.{pair_inside, pairs_made}

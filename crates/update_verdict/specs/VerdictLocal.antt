@@ -19,12 +19,10 @@ use Rattle.update_header.specs.Fields.{revision, data_size, total_size, table_co
 use Rattle.update_sizes.specs.Sizes.{sizes_ok, blocks_of, entry_offset}
 use Rattle.update_verdict.specs.Sums.{header_sum, entry_ok, table, sums_ok}
 use Rattle.update_header.specs.Checks.{header_ok, sizes_fit}
-use Rattle.update_verdict.specs.Verdict.{verdict}
+use Rattle.update_verdict.specs.Verdict.{Verdict, Good, BadHeader, BadSum, verdict}
 use Rattle.update_header.specs.Inside.{Inside, inside}
 use Rattle.update_sizes.proofs.SizeLaws.{sizes_alike}
 use Rattle.update_verdict.specs.VerdictLaws.{judged, good_size}
-use Rattle.update_verdict.specs.declared.Verdict.{Verdict}
-use Rattle.update_verdict.specs.declared.Verdict.TheVariants.{Good, BadHeader, BadSum}
 
 -- the header's 48 bytes and the T bytes are the same
 module _ (s r : List ℕ) (same : Same s r (max 48 (total_size s))) where

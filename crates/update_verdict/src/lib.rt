@@ -8,43 +8,45 @@ ghost use Rattle.update_verdict.specs.Verdict.{verdict};
 
 use update_header::{checks, fields};
 
+// What a good update says of its sizes: T, the number of data bytes, of entries and of blocks.
 #[derive(Clone, Copy)]
-pub enum Verdict {
-    // T, the number of data bytes, of entries and of blocks
-    Good {
-        total: u32,
-        data: u32,
-        entries: u32,
-        blocks: u32,
-    },
-    BadHeader,
-    BadSum,
+pub struct Measures {
+    pub total: u32,
+    pub data: u32,
+    pub entries: u32,
+    pub blocks: u32,
 }
+
+// Why an update is bad: check 2 or 3, or check 4.
+#[derive(Clone, Copy, PartialEq, Eq)]
+pub enum BadUpdate {
+    Header,
+    Sum,
+}
+
+pub type Verdict = Result<Measures, BadUpdate>;
 
 // Checks 2 to 4 of the write, in their order. Bytes behind T are ignored.
 pub fn check_update(part: &[u8]) -> Verdict
     ensures { result ≡ verdict part.now }
 {
-    if checks::header_ok(part) {
-        let d = fields::data_size(part);
-        let t = fields::total_size(part);
-        let n = fields::table_count(part, d);
-        if checks::sizes_fit(part, d, t, n) {
-            let entries = update_sizes::entries_of(d, t, n);
-            if sums::sums_ok(part, d, t, entries) {
-                Verdict::Good {
-                    total: t,
-                    data: d,
-                    entries,
-                    blocks: update_sizes::blocks_of(t),
-                }
-            } else {
-                Verdict::BadSum
-            }
-        } else {
-            Verdict::BadHeader
-        }
-    } else {
-        Verdict::BadHeader
+    if !checks::header_ok(part) {
+        return Err(BadUpdate::Header);
     }
+    let data = fields::data_size(part);
+    let total = fields::total_size(part);
+    let n = fields::table_count(part, data);
+    if !checks::sizes_fit(part, data, total, n) {
+        return Err(BadUpdate::Header);
+    }
+    let entries = update_sizes::entries_of(data, total, n);
+    if !sums::sums_ok(part, data, total, entries) {
+        return Err(BadUpdate::Sum);
+    }
+    Ok(Measures {
+        total,
+        data,
+        entries,
+        blocks: update_sizes::blocks_of(total),
+    })
 }

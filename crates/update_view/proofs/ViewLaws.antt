@@ -3,7 +3,7 @@
 --   seen            the view of a good update is that update: its verdict, fields, sizes and data
 --   only_good       a view holds bytes only of a good update
 --   holds_update    a view of s holds bytes exactly if an update begins s
-use Rattle.std.specs.Prelude.{ℕ, ◌+◌, ◌≤◌, ◌≡◌, refl, true, List, length, get_or, take, drop}
+use Rattle.std.specs.Prelude.{ℕ, ◌+◌, ◌≤◌, ◌≡◌, refl, true, List, length, get_or, take, drop, Ok, Err}
 use Rattle.std.proofs.Math.Path.{sym}
 use Rattle.std.proofs.Common.{ap, ◌∙◌, true≢false, arith, get_or-take, length-take-le}
 use Rattle.std.proofs.Math.ListN.{length-drop}
@@ -13,40 +13,41 @@ use Rattle.bytes_dwords.specs.Dword.{dword}
 use Rattle.update_header.specs.Fields.{data_size}
 use Rattle.update_header.specs.DataPart.{data_part}
 use Rattle.update_header.specs.DataPartLaws.{part_same}
-use Rattle.update_verdict.specs.Verdict.{verdict}
+use Rattle.update_verdict.specs.Verdict.{Verdict, measures, Good, verdict}
 use Rattle.update_verdict.specs.VerdictLaws.{judged, good_size}
 use Rattle.update_verdict.specs.VerdictLocal.{field_local, data_local, verdict_local}
-use Rattle.update_verdict.specs.declared.Verdict.{Verdict}
-use Rattle.update_verdict.specs.declared.Verdict.TheVariants.{Good, BadHeader, BadSum}
+use Rattle.update_verdict.specs.declared.Measures.{Measures}
+use Rattle.update_verdict.specs.declared.BadUpdate.{BadUpdate}
+use Rattle.update_verdict.specs.declared.BadUpdate.TheVariants.{Header, Sum}
 use Rattle.update_view.specs.View.{viewed_by, viewed, is_good, is_update, holds_bytes}
 use Rattle.update_view.specs.ViewLaws.{Seen}
 
 -- c is the verdict that is matched
 module _ (s : List ℕ) (c : Verdict) (e : c ≡ verdict s) where
-  module _ (t d n k : ℕ) (h : c ≡ Good t d n k) where
-    pub view_count : t ≡ length (take t s)
-    view_count = sym (length-take-le t s (good_size s t d n k (sym e ∙ h)).2)
+  module _ (m : Measures) (h : c ≡ Ok m) where
+    pub view_count : m.total ≡ length (take m.total s)
+    view_count = sym (length-take-le m.total s (good_size s m.total m.data m.entries m.blocks (sym e ∙ h)).2)
 
-    pub view_good : take t s ≡ viewed s
+    pub view_good : take m.total s ≡ viewed s
     unfolding viewed viewed_by
     view_good = rw (← e, h)
 
-  pub view_header : c ≡ BadHeader → take 0 s ≡ viewed s
+  pub view_bad : (x : BadUpdate) → c ≡ Err x → take 0 s ≡ viewed s
   unfolding viewed viewed_by
-  view_header h = rw (← e, h)
+  view_bad x h = rw (← e, h) (nothing x)
+    where
+      nothing : (x : BadUpdate) → take 0 s ≡ viewed_by s (Err x)
+      nothing Header = refl
+      nothing Sum = refl
 
-  pub view_sum : c ≡ BadSum → take 0 s ≡ viewed s
-  unfolding viewed viewed_by
-  view_sum h = rw (← e, h)
-
-pub ruleset viewing = (view_count, view_good, view_header, view_sum)
+pub ruleset viewing = (view_count, view_good, view_bad)
 
 module _ (s : List ℕ) (t d n k : ℕ) (g : verdict s ≡ Good t d n k) where
   size : (48 ≤ t) × (t ≤ 32768) × (t ≤ length s) × (48 + d ≤ t)
   size = good_size s t d n k g
 
   front : take t s ≡ viewed s
-  front = view_good s (verdict s) refl t d n k g
+  front = view_good s (verdict s) refl (measures t d n k) g
 
   long : length (viewed s) ≡ t
   long = rw (← front) (length-take-le t s size.2)
@@ -83,9 +84,9 @@ unfolding viewed viewed_by
 only_good s h = go (verdict s) refl h
   where
     go : (c : Verdict) → verdict s ≡ c → holds_bytes (viewed_by s c) ≡ true → (t : ℕ) × (d : ℕ) × (n : ℕ) × (k : ℕ) × (verdict s ≡ Good t d n k)
-    go (Good t d n k) e h = (t, d, n, k, e)
-    go BadHeader e h = absurd (true≢false (sym h))
-    go BadSum e h = absurd (true≢false (sym h))
+    go (Ok m) e h = (m.total, m.data, m.entries, m.blocks, e)
+    go (Err Header) e h = absurd (true≢false (sym h))
+    go (Err Sum) e h = absurd (true≢false (sym h))
 
 -- a view of s holds bytes exactly if an update begins s
 pub holds_update : (s : List ℕ) → holds_bytes (viewed s) ≡ is_update s
@@ -93,6 +94,6 @@ unfolding viewed viewed_by is_update
 holds_update s = go (verdict s) refl
   where
     go : (c : Verdict) → verdict s ≡ c → holds_bytes (viewed_by s c) ≡ is_good c
-    go (Good t d n k) e = ap (λ (c : Verdict). holds_bytes (viewed_by s c)) (sym e) ∙ (seen s t d n k e).update
-    go BadHeader e = refl
-    go BadSum e = refl
+    go (Ok m) e = ap (λ (c : Verdict). holds_bytes (viewed_by s c)) (sym e) ∙ (seen s m.total m.data m.entries m.blocks e).update
+    go (Err Header) e = refl
+    go (Err Sum) e = refl

@@ -3,8 +3,7 @@
 use Rattle.std.specs.Prelude.{ℕ, ◌≡◌, true, List, length}
 use Rattle.update_header.specs.Fields.{version, revision, date, signature, checksum, loader_version, flags}
 use Rattle.update_header.specs.DataPart.{data_part}
-use Rattle.update_verdict.specs.Verdict.{verdict}
-use Rattle.update_verdict.specs.declared.Verdict.TheVariants.{Good}
+use Rattle.update_verdict.specs.Verdict.{Good, verdict}
 use Rattle.update_view.specs.View.{viewed, holds_bytes}
 
 -- the view of a good update is that update, with its fields, its T and its data

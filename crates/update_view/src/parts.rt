@@ -4,7 +4,6 @@ ghost use Rattle.update_header.specs.DataPart.{data_part};
 ghost use Rattle.update_view.specs.View.{viewed, holds_bytes};
 
 use update_header::data::data_part;
-use update_verdict::Verdict;
 
 // The numbers that a view gives, by value.
 #[derive(Clone, Copy)]
@@ -26,17 +25,8 @@ pub fn front(s: &[u8]) -> &[u8]
     ensures { result.now ≡ viewed s.now }
 {
     match update_verdict::check_update(s) {
-        Verdict::Good {
-            total,
-            data: _,
-            entries: _,
-            blocks: _,
-        } => {
-            let end = total as usize;
-            &s[..end]
-        }
-        Verdict::BadHeader => &s[..0],
-        Verdict::BadSum => &s[..0],
+        Ok(m) => &s[..m.total as usize],
+        Err(_) => &s[..0],
     }
 }
 

@@ -3,7 +3,7 @@
 --   behind_plan       the plans are equal
 --   behind_outcome    the bytes of an outcome are equal
 --   behind_ignored    the answers are equal, and the bytes afterwards
-use Rattle.std.specs.Prelude.{ℕ, ◌*◌, ◌-◌, ◌≤◌, max, ◌≡◌, Bool, true, false, List, length, get_or, ltb}
+use Rattle.std.specs.Prelude.{ℕ, ◌*◌, ◌-◌, ◌≤◌, max, ◌≡◌, Bool, true, false, List, length, get_or, ltb, Ok, Err}
 use Rattle.std.proofs.Math.Path.{refl, fun_ext}
 use Rattle.std.proofs.Common.{sym, ap, arith, ltb-true}
 use Rattle.laws.specs.Tabulate.{tabulate}
@@ -13,11 +13,9 @@ use Rattle.laws.specs.Same.{Same, same_less}
 use Rattle.laws.specs.Unless.{unless}
 use Rattle.update_header.specs.Fields.{revision, total_size}
 use Rattle.update_sizes.specs.Sizes.{blocks_of}
-use Rattle.update_verdict.specs.Verdict.{verdict}
+use Rattle.update_verdict.specs.Verdict.{Verdict, Good, verdict}
 use Rattle.update_verdict.specs.VerdictLaws.{judged}
 use Rattle.update_verdict.specs.VerdictLocal.{field_behind, total_behind, verdict_behind}
-use Rattle.update_verdict.specs.declared.Verdict.{Verdict}
-use Rattle.update_verdict.specs.declared.Verdict.TheVariants.{Good, BadHeader, BadSum}
 use Rattle.update_sharing.specs.Shares.{shares}
 use Rattle.update_sharing.proofs.ShareLaws.{shares_law}
 use Rattle.update_sharing.specs.SharingLocal.{Alike, covers_local, shares_move}
@@ -125,9 +123,8 @@ module _ (old : List ℕ) (list : ProcessorList) (cand other : List ℕ) (same :
 
   judged_behind : (v : Verdict) → verdict cand ≡ v → judged_plan old list cand v ≡ judged_plan old list other v
   unfolding judged_plan
-  judged_behind (Good t d n k) e = good_behind t d n k e k
-  judged_behind BadHeader e = refl
-  judged_behind BadSum e = refl
+  judged_behind (Ok m) e = good_behind m.total m.data m.entries m.blocks e m.blocks
+  judged_behind (Err x) e = refl
 
   module _ (some : 48 ≤ length cand) (enough : 48 ≤ length other) where
     pub behind_plan : write_plan old list cand ≡ write_plan old list other

@@ -19,13 +19,12 @@ use Rattle.laws.specs.Count.{count_below, count_cong}
 use Rattle.laws.specs.Same.{Same, same_less}
 use Rattle.update_header.specs.Fields.{revision}
 use Rattle.update_sizes.specs.Sizes.{blocks_of}
-use Rattle.update_verdict.specs.Verdict.{verdict}
+use Rattle.update_verdict.specs.Verdict.{Good, verdict}
 use Rattle.update_sharing.specs.Shares.{Shares}
 use Rattle.update_coverage.proofs.CoverLaws.{covers_platform}
 use Rattle.update_sharing.proofs.ShareLaws.{shares_law}
 use Rattle.update_verdict.specs.VerdictLocal.{revision_local}
 use Rattle.update_sharing.specs.SharingLocal.{Alike, covers_local}
-use Rattle.update_verdict.specs.declared.Verdict.TheVariants.{Good}
 use Rattle.store_blocks.specs.Blocks.{from_block, block_count}
 use Rattle.store_blocks.specs.Slot.{slot_of}
 use Rattle.store_directory.specs.Scan.{slot_at, size_at, first, store_ok, directory}

@@ -2,7 +2,7 @@
 --   write_coded      the answer's codes are right
 --   write_refused    a refused write changes no byte of the store
 --   write_kept       the store is as it was, or the write was accepted
-use Rattle.std.specs.Prelude.{ℕ, ◌≡◌, Bool, not, List, ◌⊎◌}
+use Rattle.std.specs.Prelude.{ℕ, ◌≡◌, Bool, not, List, ◌⊎◌, Ok, Err}
 use Rattle.std.proofs.Math.Path.{refl}
 use Rattle.std.proofs.Math.Bool.{true, false}
 use Rattle.std.proofs.Math.Logic.{inl, inr}
@@ -13,9 +13,8 @@ use Rattle.laws.specs.Below.{any_below}
 use Rattle.laws.specs.Least.{Pick, nowhere, at}
 use Rattle.laws.specs.Unless.{unless, unless_all}
 use Rattle.update_header.specs.Fields.{revision}
-use Rattle.update_verdict.specs.Verdict.{verdict}
-use Rattle.update_verdict.specs.declared.Verdict.{Verdict}
-use Rattle.update_verdict.specs.declared.Verdict.TheVariants.{Good, BadHeader, BadSum}
+use Rattle.update_verdict.specs.Verdict.{Verdict, verdict}
+use Rattle.update_verdict.specs.declared.BadUpdate.TheVariants.{Header, Sum}
 use Rattle.store_blocks.specs.Blocks.{block_count}
 use Rattle.store_directory.specs.Scan.{store_ok}
 use Rattle.processor_list.specs.Processors.{ProcessorList, list_ok, covers_one}
@@ -46,7 +45,8 @@ placed_coded h (at start c) = refl
 
 judged_coded : (old : List ℕ) (list : ProcessorList) (cand : List ℕ) (v : Verdict) → coded (judged_plan old list cand v) ≡ true
 unfolding judged_plan good_plan coded
-judged_coded old list cand (Good t d n k) =
+judged_coded old list cand (Ok m) =
+    let k = m.blocks in
     let h = stored_updates old list cand in
     let p = placed h (choose (block_count old) k h) in
     let both = unless (not (any_below h.count (both_marks h))) (Refuse storage_full sharing_needed) p in
@@ -55,8 +55,8 @@ judged_coded old list cand (Good t d n k) =
     (unless_all coded (not (outdated old cand)) (Refuse invalid_revision none) both refl
     (unless_all coded (not (any_below h.count (both_marks h))) (Refuse storage_full sharing_needed) p refl
     (placed_coded h (choose (block_count old) k h))))
-judged_coded old list cand BadHeader = refl
-judged_coded old list cand BadSum = refl
+judged_coded old list cand (Err Header) = refl
+judged_coded old list cand (Err Sum) = refl
 
 plan_coded : (old : List ℕ) (list : ProcessorList) (cand : List ℕ) → coded (write_plan old list cand) ≡ true
 unfolding write_plan coded

@@ -3,12 +3,10 @@
 --   marks_same    the marks of the stored updates agree
 --   plan_same     the plans are equal
 --   lists_same    the answers are equal, and the bytes afterwards
-use Rattle.std.specs.Prelude.{ℕ, ◌≡◌, true, List}
+use Rattle.std.specs.Prelude.{ℕ, ◌≡◌, true, List, Ok, Err}
 use Rattle.std.proofs.Math.Path.{refl}
 use Rattle.std.proofs.Common.{ap}
-use Rattle.update_verdict.specs.Verdict.{verdict}
-use Rattle.update_verdict.specs.declared.Verdict.{Verdict}
-use Rattle.update_verdict.specs.declared.Verdict.TheVariants.{Good, BadHeader, BadSum}
+use Rattle.update_verdict.specs.Verdict.{Verdict, verdict}
 use Rattle.store_blocks.specs.Blocks.{from_block, block_count}
 use Rattle.store_directory.specs.Scan.{directory}
 use Rattle.store_directory.specs.DirectoryEntries.{start_of}
@@ -48,9 +46,8 @@ module _ (old : List ℕ) (list other : ProcessorList) (cand : List ℕ) (same :
   -- checks 2 to 8
   judged_same : (v : Verdict) → judged_plan old list cand v ≡ judged_plan old other cand v
   unfolding judged_plan
-  judged_same (Good t d n k) = good_same k
-  judged_same BadHeader = refl
-  judged_same BadSum = refl
+  judged_same (Ok m) = good_same m.blocks
+  judged_same (Err x) = refl
 
   module _ (ok : list_ok list ≡ true) (fine : list_ok other ≡ true) where
     pub plan_same : write_plan old list cand ≡ write_plan old other cand

@@ -8,10 +8,8 @@ use Rattle.std.proofs.Common.{sym, ◌∙◌}
 use Rattle.std.proofs.Math.Path.{ap}
 use Rattle.update_header.specs.Fields.{data_size, total_size}
 use Rattle.update_header.specs.Inside.{inside}
-use Rattle.update_verdict.specs.Verdict.{verdict}
+use Rattle.update_verdict.specs.Verdict.{Verdict, Good, verdict}
 use Rattle.update_verdict.specs.VerdictLaws.{Judged, judged}
-use Rattle.update_verdict.specs.declared.Verdict.{Verdict}
-use Rattle.update_verdict.specs.declared.Verdict.TheVariants.{Good}
 use Rattle.update_coverage.specs.Covers.{pair_count, pairs_of}
 use Rattle.update_coverage.proofs.PairLaws.{pairs_made}
 use Rattle.update_coverage.specs.declared.Pairs.{Pairs}

@@ -12,8 +12,7 @@ use Rattle.laws.specs.Bits.{bit}
 use Rattle.laws.specs.Count.{count_below}
 use Rattle.laws.specs.Same.{Same}
 use Rattle.update_header.specs.Fields.{revision, total_size}
-use Rattle.update_verdict.specs.Verdict.{verdict}
-use Rattle.update_verdict.specs.declared.Verdict.TheVariants.{Good}
+use Rattle.update_verdict.specs.Verdict.{Good, verdict}
 use Rattle.store_blocks.specs.Blocks.{from_block, block_count}
 use Rattle.store_directory.specs.Scan.{slot_at, size_at, first, store_ok}
 use Rattle.store_directory.specs.Valid.{Owned, ValidStore}

@@ -5,9 +5,7 @@ use Rattle.std.specs.Prelude.{ℕ, ◌≡◌, Bool, true, false, List, length}
 use Rattle.std.proofs.Common.{◌∙◌}
 use Rattle.laws.specs.Below.{any_below}
 use Rattle.laws.specs.Unless.{unless}
-use Rattle.update_verdict.specs.Verdict.{verdict}
-use Rattle.update_verdict.specs.declared.Verdict.{Verdict}
-use Rattle.update_verdict.specs.declared.Verdict.TheVariants.{Good, BadHeader, BadSum}
+use Rattle.update_verdict.specs.Verdict.{Verdict, Good, BadHeader, BadSum, verdict}
 use Rattle.store_blocks.specs.Blocks.{block_count}
 use Rattle.store_directory.specs.Scan.{directory}
 use Rattle.store_directory.proofs.StoreLaws.{directory_ok}

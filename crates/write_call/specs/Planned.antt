@@ -3,7 +3,7 @@
 --   passed             a check that doesn't refuse
 --   Planned            the facts that a start and an emptied count come with
 --   plan_run           they hold where the plan is a run
-use Rattle.std.specs.Prelude.{ℕ, ◌+◌, ◌≤◌, ◌≡◌, refl, Bool, true, false, not, List, length}
+use Rattle.std.specs.Prelude.{ℕ, ◌+◌, ◌≤◌, ◌≡◌, refl, Bool, true, false, not, List, length, Ok, Err}
 use Rattle.std.proofs.Common.{sym, ◌∙◌}
 use Rattle.std.proofs.Math.Path.{ap}
 use borrow.Author.Tests.{not-true}
@@ -14,10 +14,8 @@ use Rattle.laws.specs.Least.{Pick, nowhere, at}
 use Rattle.laws.specs.Unless.{unless}
 use Rattle.update_header.specs.Fields.{total_size}
 use Rattle.update_sizes.specs.Sizes.{blocks_of}
-use Rattle.update_verdict.specs.Verdict.{verdict}
+use Rattle.update_verdict.specs.Verdict.{Verdict, Good, verdict}
 use Rattle.update_verdict.specs.VerdictLaws.{judged, good_size, good_blocks}
-use Rattle.update_verdict.specs.declared.Verdict.{Verdict}
-use Rattle.update_verdict.specs.declared.Verdict.TheVariants.{Good, BadHeader, BadSum}
 use Rattle.store_blocks.specs.Blocks.{block_count}
 use Rattle.store_directory.specs.Scan.{store_ok, directory}
 use Rattle.store_directory.specs.DirectoryLaws.{Listing}
@@ -108,12 +106,11 @@ module _ (old : List ℕ) (list : ProcessorList) (cand : List ℕ) (start emptie
 
   judged_run : (v : Verdict) → verdict cand ≡ v → judged_plan old list cand v ≡ Run start emptied → Planned old list cand start emptied
   unfolding judged_plan
-  judged_run (Good t d n k) v e =
-      let j = judged cand t d n k v in
-      let q : k ≡ blocks_of (total_size cand) = j.blocks ∙ ap blocks_of j.total in
-      good_run d n (v ∙ rw (j.total, q)) (rw q at e)
-  judged_run BadHeader v e = absurd (impossible (cc))
-  judged_run BadSum v e = absurd (impossible (cc))
+  judged_run (Ok m) v e =
+      let j = judged cand m.total m.data m.entries m.blocks v in
+      let q : m.blocks ≡ blocks_of (total_size cand) = j.blocks ∙ ap blocks_of j.total in
+      good_run m.data m.entries (v ∙ ap (λ (t : ℕ). Good t m.data m.entries m.blocks) j.total ∙ ap (λ (k : ℕ). Good (total_size cand) m.data m.entries k) q) (rw q at e)
+  judged_run (Err x) v e = absurd (impossible (cc))
 
 pub plan_run : (old : List ℕ) (list : ProcessorList) (cand : List ℕ) (start emptied : ℕ) → write_plan old list cand ≡ Run start emptied → Planned old list cand start emptied
 unfolding write_plan

@@ -9,14 +9,12 @@
 --   write_answer    all of them
 --   bytes_after     the store after a plan and check 9
 --   write_bytes     the store afterwards: the outcome's bytes, or the old ones on a refusal
-use Rattle.std.specs.Prelude.{ℕ, ◌+◌, Bool, false, not, ◌&&◌, ◌||◌, List, ltb, eqb}
+use Rattle.std.specs.Prelude.{ℕ, ◌+◌, Bool, false, not, ◌&&◌, ◌||◌, List, ltb, eqb, Ok, Err}
 use Rattle.laws.specs.Unless.{unless}
 use Rattle.update_header.specs.Fields.{revision, total_size}
 use Rattle.update_sizes.specs.Sizes.{blocks_of}
-use Rattle.update_verdict.specs.Verdict.{verdict}
+use Rattle.update_verdict.specs.Verdict.{Verdict, verdict}
 use Rattle.update_sharing.specs.Shares.{shares}
-use Rattle.update_verdict.specs.declared.Verdict.{Verdict}
-use Rattle.update_verdict.specs.declared.Verdict.TheVariants.{Good, BadHeader, BadSum}
 use Rattle.store_blocks.specs.Blocks.{from_block, block_count}
 use Rattle.store_directory.specs.Scan.{size_at, store_ok}
 use Rattle.processor_list.specs.Processors.{ProcessorList, list_ok, covers_one}
@@ -41,9 +39,8 @@ good_plan old list cand k =
 
 -- checks 2 to 8
 unfoldable pub judged_plan : List ℕ → ProcessorList → List ℕ → Verdict → Plan
-judged_plan old list cand (Good t d n k) = good_plan old list cand k
-judged_plan old list cand BadHeader = Refuse (verdict_ah BadHeader) none
-judged_plan old list cand BadSum = Refuse (verdict_ah BadSum) none
+judged_plan old list cand (Ok m) = good_plan old list cand m.blocks
+judged_plan old list cand (Err x) = Refuse (verdict_ah (Err x)) none
 
 -- checks 1 to 8
 unfoldable pub write_plan : List ℕ → ProcessorList → List ℕ → Plan

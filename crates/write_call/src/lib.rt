@@ -19,7 +19,7 @@ use store_blocks::MOST_BLOCKS;
 use store_directory::Directory;
 use update_coverage::Pairs;
 use update_header::fields;
-use update_verdict::Verdict;
+use update_verdict::BadUpdate;
 use write_outcome::bytes;
 use write_plan::{Plan, marks};
 
@@ -175,18 +175,13 @@ pub fn write(
         if processor_list::list_ok(signatures, platforms) {
             let checked = update_verdict::check_update(candidate);
             match checked {
-                Verdict::BadHeader => answer::refuse(code::INVALID_HEADER, code::NONE),
-                Verdict::BadSum => answer::refuse(code::INVALID_HEADER_CS, code::NONE),
-                Verdict::Good {
-                    total,
-                    data,
-                    entries,
-                    blocks,
-                } => {
-                    let pairs = update_coverage::pairs_with(candidate, data, entries + 1);
+                Err(BadUpdate::Header) => answer::refuse(code::INVALID_HEADER, code::NONE),
+                Err(BadUpdate::Sum) => answer::refuse(code::INVALID_HEADER_CS, code::NONE),
+                Ok(m) => {
+                    let pairs = update_coverage::pairs_with(candidate, m.data, m.entries + 1);
                     let sizes = Sizes {
-                        total,
-                        blocks,
+                        total: m.total,
+                        blocks: m.blocks,
                         pairs,
                     };
                     write_good(store, d, signatures, platforms, candidate, sizes, back)

@@ -18,8 +18,7 @@ use Rattle.laws.specs.Tabulate.{length_tabulate}
 use Rattle.laws.specs.Unless.{unless}
 use Rattle.update_header.specs.Fields.{revision, total_size}
 use Rattle.update_sizes.specs.Sizes.{blocks_of}
-use Rattle.update_verdict.specs.Verdict.{verdict}
-use Rattle.update_verdict.specs.declared.Verdict.TheVariants.{Good}
+use Rattle.update_verdict.specs.Verdict.{Good, verdict}
 use Rattle.store_blocks.specs.Blocks.{block_count}
 use Rattle.store_directory.specs.Scan.{first, store_ok}
 use Rattle.store_directory.specs.Valid.{Owned}

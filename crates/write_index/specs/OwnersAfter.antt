@@ -15,10 +15,9 @@ use Rattle.laws.specs.Same.{same_less}
 use Rattle.laws.specs.Span.{Spans}
 use Rattle.update_header.specs.Fields.{revision}
 use Rattle.update_sizes.specs.Sizes.{blocks_of}
-use Rattle.update_verdict.specs.Verdict.{verdict}
+use Rattle.update_verdict.specs.Verdict.{Good, verdict}
 use Rattle.update_verdict.specs.VerdictLaws.{good_size, good_blocks}
 use Rattle.update_verdict.specs.VerdictLocal.{revision_local}
-use Rattle.update_verdict.specs.declared.Verdict.TheVariants.{Good}
 use Rattle.store_blocks.specs.Blocks.{from_block, block_count}
 use Rattle.store_directory.specs.Scan.{slot_size, slot_at, size_at, first}
 use Rattle.store_directory.specs.SlotLaws.{slotted, slot_inside}

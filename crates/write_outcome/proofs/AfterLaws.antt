@@ -14,10 +14,9 @@ use Rattle.laws.specs.Bools.{no_true}
 use Rattle.laws.specs.Below.{all_true}
 use Rattle.laws.specs.Same.{Same}
 use Rattle.update_sizes.specs.Sizes.{blocks_of}
-use Rattle.update_verdict.specs.Verdict.{verdict}
+use Rattle.update_verdict.specs.Verdict.{Good, verdict}
 use Rattle.update_sharing.specs.Shares.{Shares}
 use Rattle.update_sharing.specs.SharingLocal.{Alike, shares_move, shares_turn}
-use Rattle.update_verdict.specs.declared.Verdict.TheVariants.{Good}
 use Rattle.store_blocks.specs.Blocks.{is_ff, filled, from_block, block_count}
 use Rattle.store_blocks.specs.FilledLaws.{filled_local}
 use Rattle.store_directory.specs.Scan.{single, slot_at, size_at, first, store_ok}

@@ -11,11 +11,10 @@ use Rattle.laws.specs.Below.{all_true}
 use Rattle.laws.specs.Same.{Same}
 use Rattle.laws.specs.Unless.{unless}
 use Rattle.update_sizes.specs.Sizes.{blocks_of}
-use Rattle.update_verdict.specs.Verdict.{verdict}
+use Rattle.update_verdict.specs.Verdict.{Good, verdict}
 use Rattle.update_verdict.specs.VerdictLaws.{judged}
 use Rattle.update_verdict.specs.VerdictLocal.{verdict_local}
 use Rattle.update_sharing.specs.SharingLocal.{covers_local, Alike}
-use Rattle.update_verdict.specs.declared.Verdict.TheVariants.{Good}
 use Rattle.store_blocks.specs.Blocks.{is_ff, filled, from_block}
 use Rattle.store_directory.specs.Scan.{slot_size, slot_at, size_at}
 use Rattle.store_directory.specs.SlotLaws.{fits_made, update_made}

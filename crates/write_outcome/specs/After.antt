@@ -5,9 +5,8 @@
 use Rattle.std.specs.Prelude.{ℕ, ◌*◌, ◌<◌, ◌≡◌, Bool, true, not, ◌&&◌, ◌||◌, List, length, eqb}
 use Rattle.laws.specs.Same.{Same}
 use Rattle.update_sizes.specs.Sizes.{blocks_of}
-use Rattle.update_verdict.specs.Verdict.{verdict}
+use Rattle.update_verdict.specs.Verdict.{Good, verdict}
 use Rattle.update_coverage.specs.Covers.{covers}
-use Rattle.update_verdict.specs.declared.Verdict.TheVariants.{Good}
 use Rattle.store_blocks.specs.Blocks.{from_block, block_count}
 use Rattle.store_directory.specs.Scan.{slot_at, first, store_ok}
 use Rattle.store_blocks.specs.declared.slot.Slot.TheVariants.{Update}

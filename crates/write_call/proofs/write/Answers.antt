@@ -8,7 +8,7 @@ use Rattle.write_call.proofs.WriteCases.{meant, meant_refused}
 use Rattle.write_call.proofs.write.Goals as goal
 
 pub overflow_add-entries : goal.overflow_add-entries
-overflow_add-entries c = let l : c.in-Good.entries ≤ 64 = search entries_few in omega arith
+overflow_add-entries c = let l : c.in-Ok.m.entries ≤ 64 = search entries_few in omega arith
 
 pub pairs_with-pairs-requires : goal.pairs_with-pairs-requires
 pairs_with-pairs-requires c = (search good_data, search good_count)
@@ -19,18 +19,18 @@ write_good-requires c = record {
   blocks_value = search plans;
 }
 
-pub returns-in-BadHeader : goal.returns-in-BadHeader
-returns-in-BadHeader c =
+pub returns-in-Err-Header : goal.returns-in-Err-Header
+returns-in-Err-Header c =
     let m = meant_refused _ _ _ _ _ _ _ (search plans) c.refuse.ensures in
     record { answers = m.0; stores = m.1.0; demand = m.1.1 }
 
-pub returns-in-BadSum : goal.returns-in-BadSum
-returns-in-BadSum c =
-    let m = meant_refused _ _ _ _ _ _ _ (search plans) c.refuse-in-BadSum.ensures in
+pub returns-in-Err-Sum : goal.returns-in-Err-Sum
+returns-in-Err-Sum c =
+    let m = meant_refused _ _ _ _ _ _ _ (search plans) c.refuse-in-Err-Sum.ensures in
     record { answers = m.0; stores = m.1.0; demand = m.1.1 }
 
-pub returns-in-Good : goal.returns-in-Good
-returns-in-Good c =
+pub returns-in-Ok : goal.returns-in-Ok
+returns-in-Ok c =
     let m = meant _ _ _ _ _ _ _ (search plans) c.write_good.ensures.answers c.write_good.ensures.stores in
     record { answers = m.0; stores = m.1.0; demand = m.1.1 }
 
