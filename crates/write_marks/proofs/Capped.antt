@@ -1,7 +1,7 @@
 -- How many updates are lost, counted no further than a limit.
 --   losing       the loop that counts up to a limit, as `search` takes it
 --   lost_same    how many are lost doesn't depend on the second mark
-use Rattle.std.specs.Prelude.{ℕ, ◌+◌, ◌-◌, ◌<◌, ◌≤◌, ◌≡◌, refl, Bool, true, List, []}
+use Rattle.std.specs.Prelude.{ℕ, ◌+◌, ◌-◌, ◌<◌, ◌≤◌, ◌≡◌, refl, Bool, true}
 use Rattle.std.proofs.Math.Path.{sym}
 use Rattle.std.proofs.Common.{◌∙◌, lt-ltb, le-ltb}
 use Rattle.std.proofs.Math.Logic.{⊎_elim}
@@ -10,7 +10,6 @@ use Rattle.laws.specs.Count.{count_below, count_up, count_none, count_yes, count
 use Rattle.laws.specs.Orders.{le_or_lt}
 use Rattle.write_marks.specs.StoredUpdates.{StoredUpdates}
 use Rattle.write_marks.specs.Against.{loses, lost}
-use Rattle.write_marks.specs.StoredMarks.{stored_of, marks_of}
 use Rattle.write_marks.specs.Capped.{capped}
 
 pub capped_less : (limit c : ℕ) → c < limit → capped limit c ≡ c
@@ -42,6 +41,6 @@ module _ (h : StoredUpdates) (k s limit i c : ℕ) (e : c ≡ count_below i (los
 
 pub ruleset losing = (count_none, count_yes, count_no, lose_stop, lose_done)
 
-pub lost_same : (starts sizes : List ℕ) (shares needed : List Bool) (count k s : ℕ) → lost (stored_of (marks_of starts sizes shares [] count)) k s ≡ lost (stored_of (marks_of starts sizes shares needed count)) k s
-unfolding lost loses stored_of
-lost_same starts sizes shares needed count k s = refl
+pub lost_same : (count : ℕ) (start size : ℕ → ℕ) (shares needed other : ℕ → Bool) (k s : ℕ) → lost (record { count = count; start = start; size = size; shares = shares; needed = other }) k s ≡ lost (record { count = count; start = start; size = size; shares = shares; needed = needed }) k s
+unfolding lost loses
+lost_same count start size shares needed other k s = refl

@@ -1,9 +1,9 @@
 -- What the program's `Marked` stands for.
 --   stored_of       the updates of a `Marked`
---   marks_of    lent arrays as a `Marked`
+--   marks_of    arrays, and a count of at most 32, as a `Marked`
 --   both_at     both marks of two arrays
 --   both_marks_is, shared_marks    so they stand for the marks of the updates
-use Rattle.std.specs.Prelude.{ℕ, ◌≡◌, Bool, false, ◌&&◌, List, get_or}
+use Rattle.std.specs.Prelude.{ℕ, ◌≤◌, ◌≡◌, Bool, false, ◌&&◌, List, get_or}
 use Rattle.laws.specs.Below.{any_below}
 use Rattle.laws.specs.Arrays.{mark_at}
 use Rattle.laws.specs.Count.{count_below}
@@ -15,9 +15,9 @@ use Rattle.write_marks.specs.Against.{both_marks}
 unfoldable pub stored_of : Marked → StoredUpdates
 stored_of m = record { count = m.count; start = λ i. get_or m.starts i 0; size = λ i. get_or m.sizes i 0; shares = λ i. get_or m.shares i false; needed = λ i. get_or m.needed i false }
 
--- lent arrays as a `Marked`
-abbrev pub marks_of : List ℕ → List ℕ → List Bool → List Bool → ℕ → Marked
-marks_of starts sizes shares needed count = record { starts = starts; sizes = sizes; shares = shares; needed = needed; count = count }
+-- arrays, and a count of at most 32, as a `Marked`
+abbrev pub marks_of : List ℕ → List ℕ → List Bool → List Bool → (count : ℕ) → count ≤ 32 → Marked
+marks_of starts sizes shares needed count few = record { starts = starts; sizes = sizes; shares = shares; needed = needed; count = count; few = few }
 
 unfoldable pub both_at : List Bool → List Bool → ℕ → Bool
 both_at xs ys i = mark_at xs i && mark_at ys i
