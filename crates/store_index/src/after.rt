@@ -9,25 +9,27 @@ use crate::{COLUMNS, Index, UNUSED, lines};
 use store_blocks::MOST_BLOCKS;
 
 // The end of the run of `size` blocks from `start` on. It doesn't wrap, and blocks above 31 are ignored.
+#[tactic(auto, unfolding(crate::specs::AfterLines::run_end))]
 fn run_end(start: u32, size: u32) -> usize
     ensures { result ≡ run_end start size }
 {
     let end = start as usize + size as usize;
-    if end < MOST_BLOCKS { end } else { MOST_BLOCKS }
+    end.min(MOST_BLOCKS)
 }
 
 // How many low bits are 0, by eights, so that a write into high blocks doesn't go through all of them.
+#[tactic(auto, unfolding(crate::specs::AfterLines::low_zeros))]
 fn low_zeros(bits: u32) -> u32
     ensures { result ≡ low_zeros bits }
 {
     if bits % 0x1000000 == 0 {
         24
+    } else if bits % 0x10000 == 0 {
+        16
+    } else if bits % 0x100 == 0 {
+        8
     } else {
-        if bits % 0x10000 == 0 {
-            16
-        } else {
-            if bits % 0x100 == 0 { 8 } else { 0 }
-        }
+        0
     }
 }
 
@@ -36,17 +38,14 @@ fn clear_lines(columns: &mut [[u32; MOST_BLOCKS]; COLUMNS], emptied: u32)
     requires { Columns columns.old }
     ensures { Cleared emptied 32 columns.old columns.new }
 {
-    let zeros = low_zeros(emptied);
-    let mut left = emptied >> zeros;
-    let mut b = zeros as usize;
-    while left != 0 {
-        if left % 2 == 1 {
-            lines::put_line(columns, b, UNUSED, 0, 0, 0);
-            left = left / 2;
-            b += 1;
-        } else {
-            left = left / 2;
-            b += 1;
+    for b in low_zeros(emptied)..32 {
+        let left = emptied >> b;
+        if left == 0 {
+            return;
+        }
+        let here = left % 2 == 1;
+        if here {
+            lines::put_line(columns, b as usize, UNUSED, 0, 0, 0);
         }
     }
 }

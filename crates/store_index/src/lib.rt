@@ -14,14 +14,14 @@ ghost use Rattle.store_index.specs.IndexColumns.{columns_of, index_in};
 use store_blocks::MOST_BLOCKS;
 use update_header::fields;
 
-// The kinds of a block.
+// The kinds of a block: numbers, since C reads them.
 pub const UNUSED: u32 = 0;
 // The first block of an update.
 pub const FIRST: u32 = 1;
 // A later block of an update.
 pub const LATER: u32 = 2;
 
-// The columns of an index, in the order in which they are lent.
+// The columns of an index, in the order in which C lends them.
 pub const KINDS: usize = 0;
 
 pub const STARTS: usize = 1;
@@ -41,6 +41,7 @@ pub struct Line {
     pub size: u32,
 }
 
+// Four arrays and not 32 lines, since C lends the columns.
 #[derive(Clone, Copy)]
 pub struct Index {
     pub kinds: [u32; MOST_BLOCKS],

@@ -6,6 +6,7 @@ use crate::{COLUMNS, FIRST, KINDS, LATER, REVISIONS, SIZES, STARTS};
 use store_blocks::MOST_BLOCKS;
 
 // The kind of block `b` of an update.
+#[tactic(auto, unfolding(crate::specs::UpdateLines::kind_from))]
 pub fn kind_from(start: u32, b: u32) -> u32
     ensures { result ≡ kind_from start b }
 {
@@ -41,11 +42,9 @@ pub fn put_lines(
     requires { (start ≤ end) × (end ≤ 32) × Columns columns.old }
     ensures { LinesPut start revision size end columns.old columns.new }
 {
-    let mut b = start as usize;
-    while b < end {
+    for b in start as usize..end {
         let kind = kind_from(start, b as u32);
         put_line(columns, b, kind, start, revision, size);
-        b += 1;
     }
 }
 

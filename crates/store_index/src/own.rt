@@ -18,17 +18,13 @@ fn used_lines(columns: &[[u32; MOST_BLOCKS]; COLUMNS]) -> u32
     ensures { result ≡ count_below 32 (used_in (index_in columns.now)) }
 {
     let mut used: u32 = 0;
-    let mut b: usize = 0;
-    while b < MOST_BLOCKS {
+    for b in 0..MOST_BLOCKS {
         let all = columns[KINDS][b]
             | columns[STARTS][b]
             | columns[REVISIONS][b]
             | columns[SIZES][b];
-        if all == 0 {
-            b += 1;
-        } else {
+        if all != 0 {
             used += 1;
-            b += 1;
         }
     }
     used
@@ -47,13 +43,11 @@ fn update_lines(
 {
     let end = start as usize + size as usize;
     let mut all = differs;
-    let mut b = start as usize;
-    while b < end {
-        all = all | (columns[KINDS][b] ^ lines::kind_from(start, b as u32));
-        all = all | (columns[STARTS][b] ^ start);
-        all = all | (columns[REVISIONS][b] ^ revision);
-        all = all | (columns[SIZES][b] ^ size);
-        b += 1;
+    for b in start as usize..end {
+        all |= columns[KINDS][b] ^ lines::kind_from(start, b as u32);
+        all |= columns[STARTS][b] ^ start;
+        all |= columns[REVISIONS][b] ^ revision;
+        all |= columns[SIZES][b] ^ size;
     }
     all
 }
@@ -72,14 +66,12 @@ pub fn is_own<'a>(
     let used = used_lines(columns);
     let mut differs: u32 = 0;
     let mut blocks: u32 = 0;
-    let mut i: usize = 0;
-    while i < count {
-        let start = bytes_dwords::wide(starts[i]);
-        let size = bytes_dwords::wide(sizes[i]);
+    for i in 0..count {
+        let start = u32::from(starts[i]);
+        let size = u32::from(sizes[i]);
         let revision = fields::revision(store_blocks::from_block(store, start));
         differs = update_lines(columns, differs, start, revision, size);
         blocks += size;
-        i += 1;
     }
     (differs | (used ^ blocks)) == 0
 }
