@@ -1,3 +1,2 @@
--- The answer words of the calls: definitions, then laws.
+-- The answer words of the calls.
 pub mod Words
-pub mod WordLaws

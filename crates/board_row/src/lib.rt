@@ -1,24 +1,25 @@
-// A row of 16 answer words: the words that mean the same in every answer, and the numbers of the case behind them.
+// A row of 16 answer words: the words that mean the same in every answer, and the numbers of the case behind them. The image of AX.
 #![tactic(auto)]
 
-ghost use Rattle.std.specs.Prelude.{◌≡◌, not, eqb};
+ghost use Rattle.std.specs.Prelude.{◌≡◌, ◌+◌, ◌*◌};
 ghost use Rattle.board_row.specs.Row.{flag_word, row_of};
 
 // 1 for true, 0 for false.
 pub fn flag_word(x: bool) -> u32
     ensures { result ≡ flag_word x }
 {
-    if x { 1 } else { 0 }
+    u32::from(x)
 }
 
-// Carry is set exactly if AH is not 0.
-fn carry(ah: u8) -> u32
-    ensures { result ≡ flag_word (not (eqb ah 0)) }
+// The image of AX.
+pub fn ax(ah: u8, al: u8) -> u32
+    ensures { result ≡ ah * 256 + al }
 {
-    if ah == 0 { 0 } else { 1 }
+    u32::from(ah) * 256 + u32::from(al)
 }
 
-// Writes the common words and four numbers of the case; the words behind them are 0.
+// Writes the common words and four numbers of the case; the words behind them are 0. Carry is set exactly if AH is not 0.
+#[tactic(auto, unfolding(crate::specs::Row::row_of))]
 pub fn put(
     answer: &mut [u32; 16],
     ah: u8,
@@ -32,13 +33,14 @@ pub fn put(
 )
     ensures { answer.new ≡ row_of ah al on case n0 n1 n2 n3 }
 {
-    let h = ah as u32;
-    let l = al as u32;
-    let c = carry(ah);
+    let h = u32::from(ah);
+    let l = u32::from(al);
+    let c = u32::from(ah != 0);
     *answer = [h, l, c, on, case, n0, n1, n2, n3, 0, 0, 0, 0, 0, 0, 0];
 }
 
 // Writes the words of a control call that was done. Zeros and three words take fewer stores than sixteen words.
+#[tactic(auto, unfolding(crate::specs::Row::row_of))]
 pub fn put_status(answer: &mut [u32; 16], on: u32, status: u32)
     ensures { answer.new ≡ row_of 0 0 on 2 status 0 0 0 }
 {
