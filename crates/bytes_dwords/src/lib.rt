@@ -10,51 +10,50 @@ ghost use Rattle.bytes_dwords.specs.Summed.{summed};
 pub fn wide(x: u8) -> u32
     ensures { (result ≡ x) × (result < 256) }
 {
-    x as u32
+    u32::from(x)
 }
 
 // The dword at byte `at`, all four bytes of which are there. It compiles to one load.
+#[tactic(auto, unfolding(crate::specs::Dword::dword))]
 pub fn dword_inside(s: &[u8], at: usize) -> u32
     requires { at + 4 ≤ length s.now }
     ensures { result ≡ dword s.now at }
 {
-    let a = wide(s[at]);
-    let b = wide(s[at + 1]);
-    let c = wide(s[at + 2]);
-    let d = wide(s[at + 3]);
-    a + 256 * b + 65536 * c + 16777216 * d
+    u32::from_le_bytes([s[at], s[at + 1], s[at + 2], s[at + 3]])
 }
 
-fn byte_or_zero(s: &[u8], at: usize) -> u32
-    ensures { (result ≡ slice_index s.now at) × (result < 256) }
+// The library's `get` answers an Option of a reference, which doesn't fit the IA-32 archive.
+fn byte_or_zero(s: &[u8], at: usize) -> u8
+    ensures { result ≡ slice_index s.now at }
 {
-    if at < s.len() { wide(s[at]) } else { 0 }
+    if at < s.len() { s[at] } else { 0 }
 }
 
 // The dword at byte `at`, behind which the slice may end.
+#[tactic(auto, unfolding(crate::specs::Dword::dword))]
 fn dword_cut(s: &[u8], at: usize) -> u32
     requires { at < length s.now }
     ensures { result ≡ dword s.now at }
 {
-    let a = byte_or_zero(s, at);
-    let b = byte_or_zero(s, at + 1);
-    let c = byte_or_zero(s, at + 2);
-    let d = byte_or_zero(s, at + 3);
-    a + 256 * b + 65536 * c + 16777216 * d
+    u32::from_le_bytes([
+        s[at],
+        byte_or_zero(s, at + 1),
+        byte_or_zero(s, at + 2),
+        byte_or_zero(s, at + 3),
+    ])
 }
 
 // The dword at byte `at`; a byte behind the end counts as 0.
+#[tactic(auto, using(crate::proofs::DwordLaws::dword_behind))]
 pub fn dword(s: &[u8], at: usize) -> u32
     ensures { result ≡ dword s.now at }
 {
-    if at < s.len() {
-        if at + 4 <= s.len() {
-            dword_inside(s, at)
-        } else {
-            dword_cut(s, at)
-        }
-    } else {
+    if at >= s.len() {
         0
+    } else if at + 4 <= s.len() {
+        dword_inside(s, at)
+    } else {
+        dword_cut(s, at)
     }
 }
 
@@ -63,7 +62,7 @@ fn add_dword(sum: u32, s: &[u8], at: usize) -> u32
     requires { at + 4 ≤ length s.now }
     ensures { result ≡ (sum + dword s.now at) % 2 ^ 32 }
 {
-    std::num::wrapping_add_u32(sum, dword_inside(s, at))
+    sum.wrapping_add(dword_inside(s, at))
 }
 
 // A sum with the dwords from dword `i` on added to it, one a turn.
@@ -72,10 +71,8 @@ fn add_rest(sum: u32, s: &[u8], i: usize) -> u32
 {
     let n = s.len() / 4;
     let mut total = sum;
-    let mut next = i;
-    while next < n {
+    for next in i..n {
         total = add_dword(total, s, 4 * next);
-        next += 1;
     }
     total
 }
@@ -84,12 +81,7 @@ fn add_rest(sum: u32, s: &[u8], i: usize) -> u32
 fn turns_in(length: usize) -> u32
     ensures { result ≡ min (length / 64) 4294967295 }
 {
-    let turns = length / 64;
-    if turns < 4294967296 {
-        turns as u32
-    } else {
-        4294967295
-    }
+    usize::min(length / 64, 4294967295) as u32
 }
 
 // The sum of the dwords of a slice, modulo 2^32. It wraps on purpose. Up to three bytes at the end that are no whole dword don't count.
@@ -104,8 +96,7 @@ pub fn sum(s: &[u8]) -> u32
     let mut b: u32 = 0;
     let mut c: u32 = 0;
     let mut d: u32 = 0;
-    let mut turn: u32 = 0;
-    while turn < turns {
+    for turn in 0..turns {
         let at = 64 * (turn as usize);
         a = add_dword(a, s, at);
         b = add_dword(b, s, at + 4);
@@ -123,9 +114,8 @@ pub fn sum(s: &[u8]) -> u32
         b = add_dword(b, s, at + 52);
         c = add_dword(c, s, at + 56);
         d = add_dword(d, s, at + 60);
-        turn += 1;
     }
-    let ab = std::num::wrapping_add_u32(a, b);
-    let cd = std::num::wrapping_add_u32(c, d);
-    add_rest(std::num::wrapping_add_u32(ab, cd), s, 16 * (turns as usize))
+    let ab = a.wrapping_add(b);
+    let cd = c.wrapping_add(d);
+    add_rest(ab.wrapping_add(cd), s, 16 * (turns as usize))
 }
