@@ -1,4 +1,4 @@
--- Where a new update goes: which outcomes are legal, the choice, what the program's `Choice` stands for, and that the choice is best.
+-- Where a new update goes: which outcomes are legal, the choice, what the program's choice stands for, and that the choice is best.
 pub mod LegalByNumber
 pub mod Choose
 pub mod Choices

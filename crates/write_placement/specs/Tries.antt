@@ -2,68 +2,56 @@
 --   limit_of     how many the choice so far loses; one more than a store can lose where there is none
 --   turn         the choice so far against one more start
 --   trying       the three ways of one more start, as `search` takes them
-use Rattle.std.specs.Prelude.{ℕ, ◌<◌, ◌≤◌, ◌≡◌, Bool, cond, List, []}
-use Rattle.std.proofs.Common.{ap, ◌∙◌, arith, lt-ltb, le-ltb}
+use Rattle.std.specs.Prelude.{ℕ, ◌<◌, ◌≤◌, ◌≡◌, Bool, cond, Option, Some, None}
+use Rattle.std.proofs.Common.{◌∙◌, arith, lt-ltb, le-ltb}
 use Rattle.std.proofs.Math.Bool.{true, false}
 use Rattle.std.proofs.Math.Logic.{⊎_elim}
 use Rattle.laws.specs.Count.{count_below, count_most}
 use Rattle.laws.specs.Orders.{le_or_lt}
 use Rattle.laws.specs.Least.{better}
-use Rattle.write_placement.specs.declared.Choice.{Choice}
-use Rattle.write_placement.specs.declared.Choice.TheVariants.{At, Nowhere}
+use Rattle.write_placement.specs.declared.Place.{Place}
 use Rattle.write_marks.specs.StoredUpdates.{StoredUpdates}
 use Rattle.write_marks.specs.Against.{loses, ruled_out, lost}
-use Rattle.write_marks.specs.StoredMarks.{stored_of, marks_of}
 use Rattle.write_marks.specs.Capped.{capped}
-use Rattle.write_marks.proofs.Capped.{capped_less, capped_more, lost_same}
+use Rattle.write_marks.proofs.Capped.{capped_less, capped_more}
 use Rattle.write_placement.specs.Choices.{choice_of, pick_of, choice_pick}
 
-abbrev pub limit_of : Choice → ℕ
-limit_of Nowhere = 33
-limit_of (At s c) = c
+abbrev pub limit_of : Option Place → ℕ
+limit_of None = 33
+limit_of (Some p) = p.touched
 
 -- the choice so far against one more start
-abbrev pub turn : StoredUpdates → ℕ → ℕ → Choice → Choice
+abbrev pub turn : StoredUpdates → ℕ → ℕ → Option Place → Option Place
 turn h k s sofar = choice_of (cond (ruled_out h k s) (pick_of sofar) (better (pick_of sofar) s (lost h k s)))
 
 -- l is the limit, c how many are lost, up to it, b whether some update rules the start out
-module _ (h : StoredUpdates) (k s : ℕ) (sofar : Choice) (l c : ℕ) (e : l ≡ limit_of sofar) (f : c ≡ capped l (lost h k s)) where
+module _ (h : StoredUpdates) (k s : ℕ) (sofar : Option Place) (l c : ℕ) (e : l ≡ limit_of sofar) (f : c ≡ capped l (lost h k s)) where
   less_is : c < l → c ≡ lost h k s
   less_is x =
       ⊎_elim (λ (y : l ≤ lost h k s). let z = capped_more l (lost h k s) y in absurd (omega arith))
       (λ (y : lost h k s < l). f ∙ capped_less l (lost h k s) y)
       (le_or_lt l (lost h k s))
 
-  taken : (o : Choice) → l ≡ limit_of o → c < l → At s c ≡ choice_of (better (pick_of o) s (lost h k s))
-  taken Nowhere q x = ap (At s) (less_is x)
-  taken (At t d) q x = let y = less_is x in rw (lt-ltb (lost h k s) d (omega arith)) (ap (At s) y)
+  taken : (o : Option Place) → l ≡ limit_of o → c < l → Some (record { start = s; touched = c }) ≡ choice_of (better (pick_of o) s (lost h k s))
+  taken None q x = rw (less_is x)
+  taken (Some p) q x = let y = less_is x in rw (lt-ltb (lost h k s) p.touched (omega arith)) (rw y)
 
-  stays : (o : Choice) → l ≡ limit_of o → l ≤ c → h.count ≤ 32 → (b : Bool) → o ≡ choice_of (cond b (pick_of o) (better (pick_of o) s (lost h k s)))
+  stays : (o : Option Place) → l ≡ limit_of o → l ≤ c → h.count ≤ 32 → (b : Bool) → o ≡ choice_of (cond b (pick_of o) (better (pick_of o) s (lost h k s)))
   unfolding lost
   stays o q x few true = choice_pick o
-  stays Nowhere q x few false = let z = count_most (loses h k s) h.count in let y = capped_less l (count_below h.count (loses h k s)) (omega arith) in absurd (omega arith)
-  stays (At t d) q x few false =
-      ⊎_elim (λ (y : l ≤ lost h k s). rw (le-ltb (lost h k s) d (omega arith)))
+  stays None q x few false = let z = count_most (loses h k s) h.count in let y = capped_less l (count_below h.count (loses h k s)) (omega arith) in absurd (omega arith)
+  stays (Some p) q x few false =
+      ⊎_elim (λ (y : l ≤ lost h k s). rw (le-ltb (lost h k s) p.touched (omega arith)))
       (λ (y : lost h k s < l). let z = capped_less l (lost h k s) y in absurd (omega arith))
       (le_or_lt l (lost h k s))
-
--- of the lent arrays
-module _ (starts sizes : List ℕ) (shares needed : List Bool) (count k s : ℕ) (sofar : Choice) (l c : ℕ) (e : l ≡ limit_of sofar)
-    (f : c ≡ capped l (lost (stored_of (marks_of starts sizes shares [] count)) k s)) where
-  abbrev h : StoredUpdates
-  h = stored_of (marks_of starts sizes shares needed count)
-
-  right : c ≡ capped l (lost h k s)
-  right = f ∙ ap (capped l) (lost_same starts sizes shares needed count k s)
 
   pub try_ruled_out : (b : Bool) → b ≡ ruled_out h k s → b ≡ true → sofar ≡ turn h k s sofar
   try_ruled_out b g t = rw (← g, t) (choice_pick sofar)
 
-  pub try_taken : (b : Bool) → b ≡ ruled_out h k s → b ≡ false → c < l → At s c ≡ turn h k s sofar
-  try_taken b g t x = rw (← g, t) (taken h k s sofar l c e right sofar e x)
+  pub try_taken : (b : Bool) → b ≡ ruled_out h k s → b ≡ false → c < l → Some (record { start = s; touched = c }) ≡ turn h k s sofar
+  try_taken b g t x = rw (← g, t) (taken sofar e x)
 
-  pub try_dear : l ≤ c → count ≤ 32 → sofar ≡ turn h k s sofar
-  unfolding stored_of
-  try_dear x few = stays h k s sofar l c e right sofar e x few (ruled_out h k s)
+  pub try_dear : l ≤ c → h.count ≤ 32 → sofar ≡ turn h k s sofar
+  try_dear x few = stays sofar e x few (ruled_out h k s)
 
 pub ruleset trying = (try_ruled_out, try_taken, try_dear)
