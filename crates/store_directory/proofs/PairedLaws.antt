@@ -2,21 +2,21 @@
 --   slot_pairs         an update's slot
 --   scanned_pairs      what the reading lists
 --   directory_pairs    the entries of a directory
-use Rattle.std.specs.Prelude.{ℕ, ◌/◌, ◌<◌, ◌≡◌, Bool, cond, List, length}
+use Rattle.std.specs.Prelude.{ℕ, ◌<◌, ◌≡◌, Bool, cond, List, length, Option, Some}
 use Rattle.std.proofs.Math.Bool.{true, false}
 use Rattle.std.proofs.Common.{arith}
 use Rattle.std.proofs.Math.ListN.{get_or}
 use Rattle.update_verdict.specs.VerdictLaws.{judged}
 use Rattle.update_coverage.specs.Covers.{pair_count}
 use Rattle.update_coverage.proofs.PairLaws.{pairs_made}
-use Rattle.store_blocks.specs.Blocks.{from_block, block_count, length_ok}
+use Rattle.store_blocks.specs.Blocks.{from_block, block_count}
 use Rattle.store_blocks.specs.Slot.{slot_of}
 use Rattle.store_blocks.specs.declared.slot.Slot.TheVariants.{Update}
-use Rattle.store_directory.specs.Scan.{slot_at, starts_to, pad, bad_store, directory_to, scanned, store_ok, directory}
+use Rattle.store_directory.specs.Scan.{slot_at, starts_to, pad, no_updates, directory_to, scanned, store_ok, directory}
 use Rattle.store_directory.specs.DirectoryEntries.{HavePairs}
 use Rattle.store_directory.specs.SlotLaws.{slotted}
 use Rattle.store_directory.specs.BlockLaws.{first_entry}
-use Rattle.store_directory.proofs.StoreLaws.{pad_at, d_entries}
+use Rattle.store_directory.proofs.StoreLaws.{pad_at, scanned_some}
 use Rattle.store_directory.specs.LayoutLaws.{first_parts}
 use Rattle.store_directory.specs.declared.Directory.{Directory}
 
@@ -34,15 +34,15 @@ module _ (s : List ℕ) where
       let k = (first_parts s b (first_entry s n i l).0).1 in
       rw (pad_at (starts_to s n) i l) (slot_pairs (from_block s b) k.0 k.1)
 
-  -- d is what the reading listed
-  pub scanned_pairs : (d : Directory) → d ≡ scanned s (length s / 2048) → length_ok (length s) ≡ true → d.ok ≡ true → HavePairs s d.starts d.count
+  -- r is what the reading of n blocks answered
+  pub scanned_pairs : (n : ℕ) (r : Option Directory) (d : Directory) → r ≡ scanned s n → r ≡ Some d → HavePairs s d.starts d.count
   unfolding directory_to
-  scanned_pairs d e l h = rw (d_entries s d e l h) (starts_pairs (length s / 2048))
+  scanned_pairs n r d e h = rw (scanned_some s n r e d h).1 (starts_pairs n)
 
   pub directory_pairs : (d : Directory) → d ≡ directory s → HavePairs s d.starts d.count
-  unfolding directory directory_to bad_store
+  unfolding directory directory_to no_updates
   directory_pairs d e = rw e (go (store_ok s))
     where
-      go : (t : Bool) → HavePairs s (cond t (directory_to s (block_count s)) bad_store).starts (cond t (directory_to s (block_count s)) bad_store).count
+      go : (t : Bool) → HavePairs s (cond t (directory_to s (block_count s)) no_updates).starts (cond t (directory_to s (block_count s)) no_updates).count
       go true = starts_pairs (block_count s)
       go false = λ i l. absurd (omega arith)

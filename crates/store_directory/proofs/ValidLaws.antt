@@ -19,10 +19,9 @@ use Rattle.update_sharing.specs.Shares.{shares}
 use Rattle.update_sharing.proofs.ShareLaws.{shares_law}
 use Rattle.store_blocks.specs.Blocks.{from_block, block_count, length_ok}
 use Rattle.store_blocks.specs.LengthLaws.{length_parts}
-use Rattle.store_directory.specs.Scan.{first, starts_to, clash_at, clash_row, clash, apart, store_ok, directory}
+use Rattle.store_directory.specs.Scan.{first, starts_to, clash_at, clash_row, clash, apart, store_ok}
 use Rattle.store_directory.specs.Valid.{Valid, ValidStore}
-use Rattle.store_directory.proofs.StoreLaws.{store_parts, directory_good}
-use Rattle.store_directory.specs.declared.Directory.{Directory}
+use Rattle.store_directory.proofs.StoreLaws.{store_parts}
 use Rattle.store_directory.specs.BlockLaws.{entry_first, first_entry, starts_increase}
 use Rattle.store_directory.specs.LayoutLaws.{layout_first, layout_sound, scan_layout}
 
@@ -89,6 +88,5 @@ module _ (s : List ℕ) where
   pub valid_law : (store_ok s ≡ true) ↔ ValidStore s
   valid_law = (λ h. (block_count s, first s, store_valid h), λ v. valid_store v.0 v.1 v.2)
 
--- a valid store has at most 32 blocks: d is the directory that was read
-pub blocks_few : (s : List ℕ) (d : Directory) → d ≡ directory s → d.ok ≡ true → length s / 2048 ≤ 32
-blocks_few s d e h = let v = store_valid s (directory_good s d e h) in omega (arith, v.long, v.few)
+pub blocks_few : (s : List ℕ) → store_ok s ≡ true → length s / 2048 ≤ 32
+blocks_few s h = let v = store_valid s h in omega (arith, v.long, v.few)

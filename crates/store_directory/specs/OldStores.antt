@@ -8,7 +8,7 @@
 --   old_clash_at .. old_clash     two of them shared
 --   old_store_ok                  the verdict on a store
 --   old_directory, old_kind_at    its directory, and the kind of a block
-use Rattle.std.specs.Prelude.{ℕ, zero, suc, ◌+◌, ◌*◌, ◌%◌, Bool, true, cond, not, ◌&&◌, ◌||◌, List, length, get_or, leb, eqb}
+use Rattle.std.specs.Prelude.{ℕ, zero, suc, ◌+◌, ◌*◌, ◌%◌, Bool, cond, not, ◌&&◌, ◌||◌, List, length, get_or, leb, eqb}
 use Rattle.laws.specs.Below.{all_below, any_below, rows}
 use Rattle.laws.specs.NumbersBelow.{itself, list_below}
 use Rattle.laws.specs.Unless.{unless}
@@ -23,7 +23,7 @@ use Rattle.store_blocks.specs.Blocks.{unused, from_block, block_count, length_ok
 use Rattle.store_blocks.specs.Slot.{update_slot}
 use Rattle.store_blocks.specs.declared.slot.Slot.{Slot}
 use Rattle.store_blocks.specs.declared.slot.Slot.TheVariants.{Unused}
-use Rattle.store_directory.specs.Scan.{slot_size, is_update, is_bad, pad, bad_store}
+use Rattle.store_directory.specs.Scan.{slot_size, is_update, is_bad, pad, no_updates}
 use Rattle.store_directory.specs.Kind.{kind_of}
 use Rattle.store_directory.specs.declared.Directory.{Directory}
 use Rattle.store_directory.specs.declared.kind.Kind.{Kind}
@@ -96,7 +96,7 @@ old_store_ok s = length_ok (length s) && all_below (block_count s) (old_sound s)
 
 unfoldable pub old_directory : List ℕ → Directory
 old_directory s =
-    cond (old_store_ok s) (record { ok = true; count = length (old_starts s); starts = pad (old_starts s); sizes = pad (old_sizes s) }) bad_store
+    cond (old_store_ok s) (record { count = length (old_starts s); starts = pad (old_starts s); sizes = pad (old_sizes s) }) no_updates
 
 unfoldable pub old_kind_at : List ℕ → ℕ → Kind
 old_kind_at s b = kind_of (old_begins s b) (old_slot_at s b)

@@ -7,12 +7,13 @@
 --   sound                     what is read at b may stand there
 --   starts_to, sizes_to       the first blocks and the sizes of the updates among the blocks below b, in order
 --   pad                       a list as an array of 32
---   bad_store, directory_to   the directory of a bad store; that of the first n blocks
---   scanned                   what the reading lists, or bad; before the test for a common processor
+--   no_updates, directory_to  no updates, as a bad store lists none; those of the first n blocks
+--   scanned                   what the reading lists, or none where it finds a bad slot; before the test for a common processor
 --   clash_at .. clash         two of the updates cover a common processor: numbers i and j, i and one before it, some two
 --   apart                     no two do
 --   store_ok, directory       the verdict on a store, and its directory
-use Rattle.std.specs.Prelude.{ℕ, zero, suc, ◌+◌, ◌-◌, Bool, true, false, cond, not, ◌&&◌, List, ◌++◌, length, get_or, replicate, leb}
+--   stored                    the directory of a valid store, and none of a bad one
+use Rattle.std.specs.Prelude.{ℕ, zero, suc, ◌+◌, ◌-◌, Bool, true, false, cond, not, ◌&&◌, List, ◌++◌, length, get_or, replicate, leb, Option, Some, None}
 use Rattle.laws.specs.Below.{all_below, any_below}
 use Rattle.laws.specs.NumbersBelow.{itself, list_below}
 use Rattle.update_sharing.specs.Shares.{shares}
@@ -74,15 +75,15 @@ sizes_to s b = list_below (first s) (size_at s) b
 unfoldable pub pad : List ℕ → List ℕ
 pad xs = xs ++ replicate (32 - length xs) 0
 
-unfoldable pub bad_store : Directory
-bad_store = record { ok = false; count = 0; starts = replicate 32 0; sizes = replicate 32 0 }
+unfoldable pub no_updates : Directory
+no_updates = record { count = 0; starts = replicate 32 0; sizes = replicate 32 0 }
 
 -- what n blocks hold
 unfoldable pub directory_to : List ℕ → ℕ → Directory
-directory_to s n = record { ok = true; count = length (starts_to s n); starts = pad (starts_to s n); sizes = pad (sizes_to s n) }
+directory_to s n = record { count = length (starts_to s n); starts = pad (starts_to s n); sizes = pad (sizes_to s n) }
 
-unfoldable pub scanned : List ℕ → ℕ → Directory
-scanned s n = cond (all_below n (sound s)) (directory_to s n) bad_store
+unfoldable pub scanned : List ℕ → ℕ → Option Directory
+scanned s n = cond (all_below n (sound s)) (Some (directory_to s n)) None
 
 -- the updates that begin at blocks number i and j of xs cover a common processor
 unfoldable pub clash_at : List ℕ → List ℕ → ℕ → ℕ → Bool
@@ -103,4 +104,8 @@ unfoldable pub store_ok : List ℕ → Bool
 store_ok s = length_ok (length s) && all_below (block_count s) (sound s) && apart s (starts_to s (block_count s))
 
 unfoldable pub directory : List ℕ → Directory
-directory s = cond (store_ok s) (directory_to s (block_count s)) bad_store
+directory s = cond (store_ok s) (directory_to s (block_count s)) no_updates
+
+-- the directory of a valid store
+unfoldable pub stored : List ℕ → Option Directory
+stored s = cond (store_ok s) (Some (directory s)) None

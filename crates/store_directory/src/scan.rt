@@ -2,12 +2,12 @@
 ghost use Rattle.std.specs.Prelude.{◌≡◌, ◌≤◌};
 ghost use Rattle.store_directory.specs.Scan.{scanned};
 
-use crate::{Directory, bad_store};
+use crate::Directory;
 use store_blocks::slot::Slot;
 use store_blocks::{MOST_BLOCKS, slot};
 
-// Reads the first `n` blocks: the reading goes on behind each update.
-pub fn scan(s: &[u8], n: usize) -> Directory
+// Reads the first `n` blocks: the reading goes on behind each update, and ends at a block where nothing may stand.
+pub fn scan(s: &[u8], n: usize) -> Option<Directory>
     requires { n ≤ 32 }
     ensures { result ≡ scanned s.now n }
 {
@@ -15,11 +15,9 @@ pub fn scan(s: &[u8], n: usize) -> Directory
     let mut sizes = [0u8; MOST_BLOCKS];
     let mut count: usize = 0;
     let mut next: usize = 0;
-    let mut b: usize = 0;
-    while b < n {
+    for b in 0..n {
         if next <= b {
-            let found = slot::read_slot(store_blocks::from_block(s, b as u32));
-            match found {
+            match slot::read_slot(store_blocks::from_block(s, b as u32)) {
                 Slot::Unused => {
                     next = b + 1;
                 }
@@ -30,16 +28,14 @@ pub fn scan(s: &[u8], n: usize) -> Directory
                     next = b + blocks as usize;
                 }
                 Slot::Bad => {
-                    return bad_store();
+                    return None;
                 }
             }
         }
-        b += 1;
     }
-    Directory {
-        ok: true,
+    Some(Directory {
         count,
         starts,
         sizes,
-    }
+    })
 }
