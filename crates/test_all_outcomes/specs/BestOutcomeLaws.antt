@@ -1,13 +1,13 @@
 -- The program's fold finds the best outcome.
 --   best_law     what `best` gives is the first of the legal outcomes that empty the fewest, or none where none is legal
-use Rattle.std.specs.Prelude.{◌≡◌, ℕ, zero, suc, ◌+◌, ◌*◌, ◌/◌, ◌%◌, ◌<◌, ◌≤◌, Bool, true, false, cond, not, ◌&&◌, nat_le}
+use Rattle.std.specs.Prelude.{◌≡◌, ℕ, zero, suc, ◌+◌, ◌*◌, ◌/◌, ◌%◌, ◌<◌, ◌≤◌, Bool, true, false, cond, not, ◌&&◌, nat_le, Option, Some, None}
 use Rattle.std.proofs.Math.Path.{refl}
 use Rattle.std.proofs.Common.{sym, ◌∙◌, true≢false, inr, eq-or-lt_of_le, le_of_suc-le-suc, not-suc-le-zero, leb-true, leb-false}
 use Rattle.std.proofs.Math.Logic.{inl, ⊎_elim}
 use native.Mathlib.Omega.{arith}
 use Rattle.test_all_outcomes.specs.declared.layout.Layout.{Layout}
 use Rattle.test_all_outcomes.specs.declared.outcomes.Outcome.{Outcome}
-use Rattle.test_all_outcomes.specs.TriedOutcomes.{numbered, no_worse, better, best_at, none, best_to, best}
+use Rattle.test_all_outcomes.specs.TriedOutcomes.{numbered, no_worse, better, best_at, best_to, best}
 use Rattle.test_all_outcomes.specs.BestOutcome.{legal_at, emptied_by, outcome_at, FirstFewest, BestBelow, Best}
 
 module _ (l : Layout) (n c : ℕ) where
@@ -18,7 +18,7 @@ module _ (l : Layout) (n c : ℕ) where
       ⊎_elim (λ (q : j ≡ c). rw q g) (λ (m : j < c). f j m) (eq-or-lt_of_le (le_of_suc-le-suc h))
 
   -- outcome c isn't legal: the best stays
-  skipped : (o : Outcome) → legal_at l n c ≡ false → BestBelow l n c o → BestBelow l n (suc c) o
+  skipped : (o : Option Outcome) → legal_at l n c ≡ false → BestBelow l n c o → BestBelow l n (suc c) o
   skipped o e (inl b) = inl (b.0, λ j h. ⊎_elim (λ (q : j ≡ c). rw q e) (λ (m : j < c). b.1 j m) (eq-or-lt_of_le (le_of_suc-le-suc h)))
   skipped o e (inr b) =
       let w = b.2 in
@@ -34,7 +34,7 @@ module _ (l : Layout) (n c : ℕ) where
       )
 
   -- outcome c is legal and is the first
-  fresh : legal_at l n c ≡ true → ((j : ℕ) → j < c → legal_at l n j ≡ true → emptied_by c < emptied_by j) → BestBelow l n (suc c) (outcome_at c)
+  fresh : legal_at l n c ≡ true → ((j : ℕ) → j < c → legal_at l n j ≡ true → emptied_by c < emptied_by j) → BestBelow l n (suc c) (Some (outcome_at c))
   fresh e f =
       inr (
         c,
@@ -58,21 +58,21 @@ module _ (l : Layout) (n c : ℕ) where
 
   -- t: the best so far empties no more than outcome c
   found : (m : ℕ) (t : Bool) → nat_le (emptied_by m) (emptied_by c) ≡ t → legal_at l n c ≡ true → FirstFewest l n c m
-      → BestBelow l n (suc c) (cond (not t) (outcome_at c) (outcome_at m))
+      → BestBelow l n (suc c) (cond (not t) (Some (outcome_at c)) (Some (outcome_at m)))
   found m true q e w = inr (m, refl, kept m w (leb-true (emptied_by m) (emptied_by c) q))
   found m false q e w =
       let z : emptied_by c < emptied_by m = leb-false (emptied_by m) (emptied_by c) q in
       fresh e (λ j h k. omega (arith, w.fewest j h k))
 
   -- outcome c is tried
-  module _ (o : Outcome) (b : BestBelow l n c o) where
-    tried : (t : Bool) → legal_at l n c ≡ t → BestBelow l n (suc c) (cond (t && not (no_worse o (emptied_by c))) (outcome_at c) o)
-    unfolding no_worse none
+  module _ (o : Option Outcome) (b : BestBelow l n c o) where
+    tried : (t : Bool) → legal_at l n c ≡ t → BestBelow l n (suc c) (cond (t && not (no_worse o (emptied_by c))) (Some (outcome_at c)) o)
+    unfolding no_worse
     tried false e = skipped o e b
     tried true e =
-        ⊎_elim (λ (d : (o ≡ none) × ((j : ℕ) → j < c → legal_at l n j ≡ false)).
+        ⊎_elim (λ (d : (o ≡ None) × ((j : ℕ) → j < c → legal_at l n j ≡ false)).
         rw d.0 (fresh e (λ j h k. absurd (true≢false (sym k ∙ d.1 j h)))))
-        (λ (d : (m : ℕ) × (o ≡ outcome_at m) × FirstFewest l n c m).
+        (λ (d : (m : ℕ) × (o ≡ Some (outcome_at m)) × FirstFewest l n c m).
         rw d.1 (found d.0 (nat_le (emptied_by d.0) (emptied_by c)) refl e d.2))
         b
 
@@ -83,7 +83,7 @@ module _ (l : Layout) (n c : ℕ) where
 
 module _ (l : Layout) (n : ℕ) where
   -- the sets at a start
-  sets : (o : Outcome) (start k : ℕ) → k ≤ 16 → BestBelow l n (16 * start) o → BestBelow l n (16 * start + k) (best_at o l n start k)
+  sets : (o : Option Outcome) (start k : ℕ) → k ≤ 16 → BestBelow l n (16 * start) o → BestBelow l n (16 * start + k) (best_at o l n start k)
   unfolding best_at
   sets o start zero h b = let q : 16 * start + 0 ≡ 16 * start = omega arith in rw q b
   sets o start (suc k) h b =

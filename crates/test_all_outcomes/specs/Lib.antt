@@ -16,4 +16,3 @@ pub mod WantedStoreLaws
 pub mod JudgedAnswers
 pub mod JudgedAnswerLaws
 pub mod Tallies
-pub mod TallyLaws

@@ -4,11 +4,11 @@
 --   no_tally        nothing was seen
 --   with_written    a write that was done more, by its emptied count
 --   with_refused    a refusal more, by its AL
---   with_number     one of the two
+--   with_became     one of the two
 --   with_judged     a difference more, if what was seen is not as it should be
 --   with_call       a write more
 --   with_seen       all three
-use Rattle.std.specs.Prelude.{ℕ, ◌+◌, ◌%◌, ◌^◌, Bool, cond, List, replicate, ◌==◌, nat_lt, slice_index, slice_set}
+use Rattle.std.specs.Prelude.{ℕ, ◌+◌, ◌%◌, ◌^◌, Bool, cond, List, replicate, ◌==◌, nat_lt, slice_index, slice_set, Result, Ok, Err}
 use Rattle.call_answers.specs.Codes.{sharing_needed, no_run}
 use Rattle.test_all_outcomes.specs.declared.tally.Tally.{Tally}
 use Rattle.test_all_outcomes.specs.declared.trial.Seen.{Seen}
@@ -34,8 +34,9 @@ with_refused t al =
     (cond (al == no_run) (more t.full) t.full)
     t.written t.differences t.emptied
 
-unfoldable pub with_number : Tally → Bool → ℕ → Tally
-with_number t written n = cond written (with_written t n) (with_refused t n)
+unfoldable pub with_became : Tally → Result ℕ ℕ → Tally
+with_became t (Ok emptied) = with_written t emptied
+with_became t (Err al) = with_refused t al
 
 unfoldable pub with_judged : Tally → Bool → Tally
 with_judged t same =
@@ -45,4 +46,4 @@ unfoldable pub with_call : Tally → Tally
 with_call t = tally (more t.writes) t.both_marks t.full t.written t.differences t.emptied
 
 unfoldable pub with_seen : Tally → Seen → Tally
-with_seen t s = with_call (with_judged (with_number t s.written s.number) s.same)
+with_seen t s = with_call (with_judged (with_became t s.became) s.same)

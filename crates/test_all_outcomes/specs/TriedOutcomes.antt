@@ -14,11 +14,10 @@
 --   no_worse       an outcome was found, and empties no more than `emptied`
 --   better         the new outcome if it is legal and empties fewer than the one found so far, which else stays
 --   best_at        the best so far, after the first k sets at a start
---   none           no outcome
 --   best_to        the best of the starts below `start`
 --   best           the best of all: the first of the legal outcomes that empty the fewest, by starts and then by
---                  sets; `Best` (BestOutcome) says it in words
-use Rattle.std.specs.Prelude.{ℕ, zero, suc, ◌+◌, ◌/◌, ◌%◌, Bool, true, false, cond, not, ◌&&◌, ◌||◌, [], ◌∷◌, ◌==◌, nat_le, nat_lt}
+--                  sets, or none where none is legal; `Best` (BestOutcome) says it in words
+use Rattle.std.specs.Prelude.{ℕ, zero, suc, ◌+◌, ◌/◌, ◌%◌, Bool, false, cond, not, ◌&&◌, ◌||◌, [], ◌∷◌, ◌==◌, nat_le, nat_lt, Option, Some, None}
 use Rattle.laws.specs.Below.{all_below}
 use Rattle.laws.specs.Count.{count_below}
 use Rattle.laws.specs.Arrays.{mark_at}
@@ -60,25 +59,23 @@ allowed l set = all_below most_updates (allowed_at l set)
 unfoldable pub legal : Layout → ℕ → ℕ → Set → Bool
 legal l n start set = allowed l set && run_open l set start n
 
-abbrev pub outcome : Bool → ℕ → ℕ → Set → Outcome
-outcome found start emptied set = record { found = found; start = start; emptied = emptied; set = set }
+abbrev pub outcome : ℕ → ℕ → Set → Outcome
+outcome start emptied set = record { start = start; emptied = emptied; set = set }
 
-unfoldable pub no_worse : Outcome → ℕ → Bool
-no_worse old emptied = old.found && nat_le old.emptied emptied
+unfoldable pub no_worse : Option Outcome → ℕ → Bool
+no_worse None emptied = false
+no_worse (Some old) emptied = nat_le old.emptied emptied
 
-unfoldable pub better : Outcome → Layout → ℕ → ℕ → Set → Outcome
-better old l n start set = cond (legal l n start set && not (no_worse old (size_of set))) (outcome true start (size_of set) set) old
+unfoldable pub better : Option Outcome → Layout → ℕ → ℕ → Set → Option Outcome
+better old l n start set = cond (legal l n start set && not (no_worse old (size_of set))) (Some (outcome start (size_of set) set)) old
 
-unfoldable pub best_at : Outcome → Layout → ℕ → ℕ → ℕ → Outcome
+unfoldable pub best_at : Option Outcome → Layout → ℕ → ℕ → ℕ → Option Outcome
 best_at old l n start zero = old
 best_at old l n start (suc k) = better (best_at old l n start k) l n start (numbered k)
 
-unfoldable pub none : Outcome
-none = outcome false 0 0 (numbered 0)
-
-unfoldable pub best_to : Layout → ℕ → ℕ → Outcome
-best_to l n zero = none
+unfoldable pub best_to : Layout → ℕ → ℕ → Option Outcome
+best_to l n zero = None
 best_to l n (suc start) = best_at (best_to l n start) l n start 16
 
-unfoldable pub best : Layout → ℕ → Outcome
+unfoldable pub best : Layout → ℕ → Option Outcome
 best l n = best_to l n l.blocks

@@ -1,11 +1,10 @@
 // A small store as blocks and marks: which blocks each update takes, whether it shares a processor with the candidate, and whether it is
 // needed: covers a listed processor that the candidate doesn't.
-ghost use Rattle.std.specs.Prelude.{◌≡◌, ◌+◌, ◌&&◌};
-ghost use Rattle.test_all_outcomes.specs.SmallLayouts.{unused, block_bytes, spoilt, with_update, kind_size, with_kind, codes, coded, owns, both_marks};
+ghost use Rattle.std.specs.Prelude.{◌≡◌, ◌+◌};
+ghost use Rattle.test_all_outcomes.specs.SmallLayouts.{unused, block_bytes, with_update, kind_size, with_kind, codes, coded, owns, both_marks};
 
 #[derive(Clone, Copy)]
 pub struct Layout {
-    pub good: bool,
     pub blocks: u32,
     pub count: u32,
     pub behind: u32,
@@ -15,11 +14,11 @@ pub struct Layout {
     pub needed: [bool; 4],
 }
 
+#[tactic(auto, unfolding(crate::specs::SmallLayouts::unused))]
 fn unused(blocks: u32) -> Layout
     ensures { result ≡ unused blocks }
 {
     Layout {
-        good: true,
         blocks,
         count: 0,
         behind: 0,
@@ -43,30 +42,14 @@ fn sum(a: u32, b: u32) -> u64
     a as u64 + b as u64
 }
 
-// The layout, not good.
-fn spoilt(l: Layout) -> Layout
-    ensures { result ≡ spoilt l }
-{
-    let mut m = l;
-    m.good = false;
-    m
-}
-
-// The layout with an update more, which begins at `block`. It is not good where the update has no room or is the fifth.
-fn with_update(l: Layout, block: u32, size: u32, shares: bool, needed: bool) -> Layout
+// The layout with an update more, which begins at `block`; none where the update has no room or is the fifth.
+#[tactic(auto, unfolding(crate::specs::SmallLayouts::with_update, crate::specs::SmallLayouts::has_room, crate::specs::SmallLayouts::added))]
+fn with_update(l: Layout, block: u32, size: u32, shares: bool, needed: bool) -> Option<Layout>
     ensures { result ≡ with_update l block size shares needed }
 {
-    if block < l.behind {
-        return spoilt(l);
-    }
     let i = l.count as usize;
-    if i >= 4 {
-        return spoilt(l);
-    }
-    let end = sum(block, size);
-    let blocks = l.blocks as u64;
-    if end > blocks {
-        return spoilt(l);
+    if block < l.behind || i >= 4 || sum(block, size) > l.blocks as u64 {
+        return None;
     }
     let mut m = l;
     m.starts[i] = block;
@@ -75,10 +58,11 @@ fn with_update(l: Layout, block: u32, size: u32, shares: bool, needed: bool) -> 
     m.needed[i] = needed;
     m.count = l.count + 1;
     m.behind = block + size;
-    m
+    Some(m)
 }
 
 // The blocks of an update of a kind.
+#[tactic(auto, unfolding(crate::specs::SmallLayouts::kind_size))]
 fn kind_size(kind: u32) -> u32
     ensures { result ≡ kind_size kind }
 {
@@ -86,17 +70,19 @@ fn kind_size(kind: u32) -> u32
 }
 
 // The layout with a block of one of nine kinds: 0 begins no update, 1 to 4 one of one block, 5 to 8 one of two, each with one pair of
-// marks.
-fn with_block(l: Layout, block: u32, kind: u32) -> Layout
+// marks. None where the update has no room or is the fifth.
+#[tactic(auto, unfolding(crate::specs::SmallLayouts::with_kind))]
+fn with_block(l: Layout, block: u32, kind: u32) -> Option<Layout>
     ensures { result ≡ with_kind l block kind }
 {
     if kind == 0 {
-        return l;
+        return Some(l);
     }
     with_update(l, block, kind_size(kind), kind % 2 == 1, kind / 2 % 2 == 1)
 }
 
 // How many codes there are for a number of blocks: nine kinds for each.
+#[tactic(auto, unfolding(crate::specs::SmallLayouts::codes))]
 pub fn codes(blocks: u32) -> u32
     ensures { result ≡ codes blocks }
 {
@@ -111,52 +97,31 @@ pub fn codes(blocks: u32) -> u32
     }
 }
 
-// The layout with a code, a digit to base nine for each block. Each layout has one code by which it is good.
-pub fn coded(blocks: u32, code: u32) -> Layout
+// The layout with a code, a digit to base nine for each block. Each layout has one code.
+#[tactic(auto, using(crate::specs::SmallLayoutLaws::coding))]
+pub fn coded(blocks: u32, code: u32) -> Option<Layout>
     ensures { result ≡ coded blocks code }
 {
     let mut l = unused(blocks);
     let mut rest = code;
-    let mut block: u32 = 0;
-    while block < blocks {
-        l = with_block(l, block, rest % 9);
-        rest = rest / 9;
-        block += 1;
+    for block in 0..blocks {
+        l = with_block(l, block, rest % 9)?;
+        rest /= 9;
     }
-    l
+    Some(l)
 }
 
 // Whether update `i` has block `c`.
+#[tactic(auto, unfolding(crate::specs::SmallLayouts::owns))]
 pub fn owns(l: Layout, i: usize, c: u32) -> bool
     ensures { result ≡ owns l i c }
 {
-    if i >= 4 {
-        return false;
-    }
-    let start = l.starts[i];
-    let size = l.sizes[i];
-    if start > c {
-        return false;
-    }
-    (c as u64) < sum(start, size)
-}
-
-fn both(a: bool, b: bool) -> bool
-    ensures { result ≡ a && b }
-{
-    if a { b } else { false }
+    i < 4 && l.starts[i] <= c && (c as u64) < sum(l.starts[i], l.sizes[i])
 }
 
 // Whether some update has both marks.
 pub fn both_marks(l: Layout) -> bool
     ensures { result ≡ both_marks l }
 {
-    let mut i: usize = 0;
-    while i < 4 {
-        if both(l.shares[i], l.needed[i]) {
-            return true;
-        }
-        i += 1;
-    }
-    false
+    (0..4).any(|i| l.shares[i] && l.needed[i])
 }

@@ -12,9 +12,7 @@ mod trial;
 use std::io;
 
 fn main(rt: HostRuntime) -> io::Result<()> {
-    let mut store_space = [0u8; 65536];
-    let mut wanted_space = [0u8; 65536];
-    let store: &mut [u8] = &mut store_space;
-    let wanted: &mut [u8] = &mut wanted_space;
-    tally::write(&rt, tally::all(store, wanted))
+    let mut store = [0u8; 65536];
+    let mut wanted = [0u8; 65536];
+    tally::write(&rt, tally::all(&mut store, &mut wanted))
 }

@@ -14,6 +14,7 @@ struct Cover {
 }
 
 // An update of T bytes without a table, with D as given and one byte as its data.
+#[tactic(auto, unfolding(crate::specs::MadeStores::plain_of))]
 fn plain(buf: &mut [u8], revision: u32, cover: Cover, d: u32, t: u32, byte: u8)
     ensures { buf.new ≡ plain_of buf.old revision cover d t byte }
 {
@@ -22,6 +23,7 @@ fn plain(buf: &mut [u8], revision: u32, cover: Cover, d: u32, t: u32, byte: u8)
 }
 
 // An update of T bytes with a table of one entry, of revision 5.
+#[tactic(auto, unfolding(crate::specs::MadeStores::tabled_of))]
 fn tabled(buf: &mut [u8], one: Cover, other: Cover, t: u32, byte: u8)
     ensures { buf.new ≡ tabled_of buf.old one other t byte }
 {
@@ -38,13 +40,15 @@ fn tabled(buf: &mut [u8], one: Cover, other: Cover, t: u32, byte: u8)
 }
 
 // D where the data fill T.
+#[tactic(auto, unfolding(crate::specs::MadeStores::plain_data))]
 fn plain_data(t: u32) -> u32
     ensures { result ≡ plain_data t }
 {
-    std::num::wrapping_sub_u32(t, 48)
+    t.wrapping_sub(48)
 }
 
 // A candidate of T bytes and revision 9, which covers (100, 0) to (100, 7).
+#[tactic(auto, unfolding(crate::specs::MadeStores::candidate_of))]
 pub fn candidate(buf: &mut [u8], t: u32)
     ensures { buf.new ≡ candidate_of buf.old t }
 {
@@ -56,6 +60,7 @@ pub fn candidate(buf: &mut [u8], t: u32)
 }
 
 // T of a stored update. It fills its last block, or leaves the half of it.
+#[tactic(auto, unfolding(crate::specs::MadeStores::total_of))]
 fn total(start: u32, size: u32) -> u32
     ensures { result ≡ total_of start size }
 {
@@ -66,6 +71,7 @@ fn total(start: u32, size: u32) -> u32
 }
 
 // The one platform by which update `i` shares, with the candidate's signature.
+#[tactic(auto, unfolding(crate::specs::MadeStores::sharing_cover))]
 fn sharing(i: usize) -> Cover
     ensures { result ≡ sharing_cover i }
 {
@@ -82,29 +88,30 @@ fn sharing(i: usize) -> Cover
 }
 
 // A signature of update `i` alone.
+#[tactic(auto, unfolding(crate::specs::MadeStores::own_cover))]
 fn own(signature: u32, i: usize) -> Cover
     ensures { result ≡ own_cover signature i }
 {
     Cover {
-        signature: std::num::wrapping_add_u32(signature, (i % 4) as u32),
+        signature: signature.wrapping_add((i % 4) as u32),
         flags: 1,
     }
 }
 
 // D of a stored update with one signature. One of one block has D 0 if it begins at an odd block.
+#[tactic(auto, unfolding(crate::specs::MadeStores::single_data))]
 fn single_data(start: u32, t: u32) -> u32
     ensures { result ≡ single_data start t }
 {
-    if t == 2048 {
-        if start % 2 == 1 {
-            return 0;
-        }
-        return plain_data(t);
+    if t == 2048 && start % 2 == 1 {
+        0
+    } else {
+        plain_data(t)
     }
-    plain_data(t)
 }
 
 // A stored update with one signature.
+#[tactic(auto, unfolding(crate::specs::MadeStores::single_of))]
 fn single(buf: &mut [u8], cover: Cover, start: u32, t: u32, byte: u8)
     ensures { buf.new ≡ single_of buf.old cover start t byte }
 {
@@ -112,6 +119,7 @@ fn single(buf: &mut [u8], cover: Cover, start: u32, t: u32, byte: u8)
 }
 
 // A stored update with both marks. It shares by its header or, at an odd block, by its entry.
+#[tactic(auto, unfolding(crate::specs::MadeStores::both_of))]
 fn both(buf: &mut [u8], i: usize, start: u32, t: u32, byte: u8)
     ensures { buf.new ≡ both_of buf.old i start t byte }
 {
@@ -123,27 +131,22 @@ fn both(buf: &mut [u8], i: usize, start: u32, t: u32, byte: u8)
 }
 
 // Update `i` at the buffer's first byte.
+#[tactic(auto, unfolding(crate::specs::MadeStores::stored_of, crate::specs::MadeStores::marked_of))]
 fn stored(buf: &mut [u8], i: usize, start: u32, size: u32, shares: bool, needed: bool)
     ensures { buf.new ≡ stored_of buf.old i start size shares needed }
 {
     let t = total(start, size);
     let byte = (i % 4) as u8 + 1;
-    if shares {
-        if needed {
-            both(buf, i, start, t, byte);
-        } else {
-            single(buf, sharing(i), start, t, byte);
-        }
-    } else {
-        if needed {
-            single(buf, own(0x200, i), start, t, byte);
-        } else {
-            single(buf, own(0x300, i), start, t, byte);
-        }
+    match (shares, needed) {
+        (true, true) => both(buf, i, start, t, byte),
+        (true, false) => single(buf, sharing(i), start, t, byte),
+        (false, true) => single(buf, own(0x200, i), start, t, byte),
+        (false, false) => single(buf, own(0x300, i), start, t, byte),
     }
 }
 
 // Update `i` of a layout, at its place.
+#[tactic(auto, unfolding(crate::specs::MadeStores::stored_at))]
 fn stored_at(buf: &mut [u8], l: Layout, i: usize)
     ensures { buf.new ≡ stored_at buf.old l i }
 {
@@ -164,14 +167,12 @@ fn stored_at(buf: &mut [u8], l: Layout, i: usize)
 }
 
 // The store of a layout.
+#[tactic(auto, using(crate::specs::MadeStoreLaws::placing))]
 pub fn store(buf: &mut [u8], l: Layout)
     ensures { buf.new ≡ store_of buf.old l }
 {
     bytes::fill(buf, 0, 12288, 255);
-    let count = l.count as usize;
-    let mut i: usize = 0;
-    while i < count {
+    for i in 0..l.count as usize {
         stored_at(buf, l, i);
-        i += 1;
     }
 }

@@ -1,9 +1,8 @@
 // All small stores tried, and counted by their answers.
 ghost use Rattle.std.specs.Prelude.{◌≡◌};
-ghost use Rattle.test_all_outcomes.specs.Tallies.{more, no_tally, with_written, with_refused, with_number, with_judged, with_call, with_seen};
+ghost use Rattle.test_all_outcomes.specs.Tallies.{no_tally, with_written, with_refused, with_became, with_judged, with_call, with_seen};
 
-use crate::layout::Layout;
-use crate::trial::Seen;
+use crate::trial::{Candidate, Seen};
 use crate::{layout, make, trial};
 use call_answers::code;
 use std::io;
@@ -19,6 +18,7 @@ pub struct Tally {
     pub emptied: [u32; 5],
 }
 
+#[tactic(auto, unfolding(crate::specs::Tallies::no_tally))]
 fn none() -> Tally
     ensures { result ≡ no_tally }
 {
@@ -33,97 +33,73 @@ fn none() -> Tally
     }
 }
 
-fn more(n: u32) -> u32
-    ensures { result ≡ more n }
-{
-    std::num::wrapping_add_u32(n, 1)
-}
-
 // A write counted by its emptied count.
+#[tactic(auto, unfolding(crate::specs::Tallies::with_written))]
 fn with_written(t: Tally, emptied: u32) -> Tally
     ensures { result ≡ with_written t emptied }
 {
     let mut u = t;
     let i = emptied as usize;
-    u.written = more(t.written);
+    u.written = t.written.wrapping_add(1);
     if i < 5 {
-        let n = t.emptied[i];
-        u.emptied[i] = more(n);
-        return u;
+        u.emptied[i] = t.emptied[i].wrapping_add(1);
     }
     u
 }
 
 // A refusal counted by its AL.
-fn with_refused(t: Tally, al: u32) -> Tally
+#[tactic(auto, unfolding(crate::specs::Tallies::with_refused))]
+fn with_refused(t: Tally, al: u8) -> Tally
     ensures { result ≡ with_refused t al }
 {
     let mut u = t;
-    if al == code::SHARING_NEEDED as u32 {
-        u.both_marks = more(t.both_marks);
-        return u;
-    }
-    if al == code::NO_RUN as u32 {
-        u.full = more(t.full);
-        return u;
+    match al {
+        code::SHARING_NEEDED => u.both_marks = t.both_marks.wrapping_add(1),
+        code::NO_RUN => u.full = t.full.wrapping_add(1),
+        _ => {}
     }
     u
 }
 
-// A write counted by what became of it.
-fn with_number(t: Tally, written: bool, n: u32) -> Tally
-    ensures { result ≡ with_number t written n }
+// A write counted by its emptied count, or a refusal by its AL.
+#[tactic(auto, unfolding(crate::specs::Tallies::with_became))]
+fn with_became(t: Tally, became: Result<u32, u8>) -> Tally
+    ensures { result ≡ with_became t became }
 {
-    if written {
-        with_written(t, n)
-    } else {
-        with_refused(t, n)
+    match became {
+        Ok(emptied) => with_written(t, emptied),
+        Err(al) => with_refused(t, al),
     }
 }
 
 // A difference counted, if a write was not as it should be.
+#[tactic(auto, unfolding(crate::specs::Tallies::with_judged))]
 fn with_judged(t: Tally, same: bool) -> Tally
     ensures { result ≡ with_judged t same }
 {
     let mut u = t;
-    if same {
-        return u;
+    if !same {
+        u.differences = t.differences.wrapping_add(1);
     }
-    u.differences = more(t.differences);
     u
 }
 
 // A write counted.
+#[tactic(auto, unfolding(crate::specs::Tallies::with_call))]
 fn with_call(t: Tally) -> Tally
     ensures { result ≡ with_call t }
 {
     let mut u = t;
-    u.writes = more(t.writes);
+    u.writes = t.writes.wrapping_add(1);
     u
 }
 
 // A write counted by what was seen of it.
+#[tactic(auto, unfolding(crate::specs::Tallies::with_seen))]
 fn with(t: Tally, seen: Seen) -> Tally
     ensures { result ≡ with_seen t seen }
 {
-    with_call(with_judged(with_number(t, seen.written, seen.number), seen.same))
-}
-
-// The store of a layout tried with one candidate, if the layout is good.
-fn with_store(
-    tally: Tally,
-    store: &mut [u8],
-    wanted: &mut [u8],
-    l: Layout,
-    candidate: &[u8],
-    t: u32,
-    n: u32,
-) -> Tally {
-    if l.good {
-        with(tally, trial::trial(store, wanted, l, candidate, t, n))
-    } else {
-        tally
-    }
+    with_call(with_judged(with_became(t, seen.became), seen.same))
 }
 
 // All stores of a number of blocks tried with one candidate.
@@ -132,35 +108,22 @@ fn stores(
     store: &mut [u8],
     wanted: &mut [u8],
     blocks: u32,
-    candidate: &[u8],
-    t: u32,
-    n: u32,
+    candidate: Candidate,
 ) -> Tally {
     let mut u = tally;
-    let codes = layout::codes(blocks);
-    let mut code: u32 = 0;
-    while code < codes {
-        let l = layout::coded(blocks, code);
-        u = with_store(u, store, wanted, l, candidate, t, n);
-        code += 1;
+    for code in 0..layout::codes(blocks) {
+        if let Some(l) = layout::coded(blocks, code) {
+            u = with(u, trial::trial(store, wanted, l, candidate));
+        }
     }
     u
 }
 
 // All stores of up to six blocks tried with one candidate.
-fn sizes(
-    tally: Tally,
-    store: &mut [u8],
-    wanted: &mut [u8],
-    candidate: &[u8],
-    t: u32,
-    n: u32,
-) -> Tally {
+fn sizes(tally: Tally, store: &mut [u8], wanted: &mut [u8], candidate: Candidate) -> Tally {
     let mut u = tally;
-    let mut blocks: u32 = 1;
-    while blocks < 7 {
-        u = stores(u, store, wanted, blocks, candidate, t, n);
-        blocks += 1;
+    for blocks in 1..7 {
+        u = stores(u, store, wanted, blocks, candidate);
     }
     u
 }
@@ -168,10 +131,14 @@ fn sizes(
 // All stores tried with a candidate of `k` times 1,024 bytes.
 fn tried(tally: Tally, store: &mut [u8], wanted: &mut [u8], k: u32) -> Tally {
     let mut space = [0u8; 65536];
-    let candidate: &mut [u8] = &mut space;
     if k < 7 {
-        make::candidate(candidate, k * 1024);
-        sizes(tally, store, wanted, candidate, k * 1024, (k + 1) / 2)
+        make::candidate(&mut space, k * 1024);
+        let candidate = Candidate {
+            bytes: &space,
+            total: k * 1024,
+            blocks: (k + 1) / 2,
+        };
+        sizes(tally, store, wanted, candidate)
     } else {
         tally
     }
@@ -180,10 +147,8 @@ fn tried(tally: Tally, store: &mut [u8], wanted: &mut [u8], k: u32) -> Tally {
 // All stores tried with candidates of one to three blocks, whose last block is full or half full.
 pub fn all(store: &mut [u8], wanted: &mut [u8]) -> Tally {
     let mut u = none();
-    let mut k: u32 = 1;
-    while k < 7 {
+    for k in 1..7 {
         u = tried(u, store, wanted, k);
-        k += 1;
     }
     u
 }

@@ -11,12 +11,19 @@ use call_answers::answer::Answer;
 use call_answers::{answer, code};
 use test_samples::bytes;
 
-// What was seen of one write: whether it was as it should be, and its AL or its emptied count.
+// What was seen of one write: whether it was as it should be, and its emptied count, or AL of its refusal.
 #[derive(Clone, Copy)]
 pub struct Seen {
     pub same: bool,
-    pub written: bool,
-    pub number: u32,
+    pub became: Result<u32, u8>,
+}
+
+// A candidate of T bytes, which takes a number of blocks, and may have bytes behind it.
+#[derive(Clone, Copy)]
+pub struct Candidate<'a> {
+    pub bytes: &'a [u8],
+    pub total: u32,
+    pub blocks: u32,
 }
 
 // The write of a candidate of revision 9 to the first `n` bytes, with (100, 7), two processors by which a stored update may share,
@@ -46,77 +53,61 @@ fn call(store: &mut [u8], n: usize, candidate: &[u8]) -> Answer {
 }
 
 // Fills the blocks of update `i` with FFh if a set has it.
+#[tactic(auto, unfolding(crate::specs::WantedStores::emptied_at, laws::specs::Arrays::mark_at))]
 fn empty_update(buf: &mut [u8], l: Layout, set: Set, i: usize)
     ensures { buf.new ≡ emptied_at buf.old l set i }
 {
-    if i < 4 {
-        if set.has[i] {
-            let start = l.starts[i];
-            let size = l.sizes[i];
-            bytes::fill(buf, layout::bytes(start) as usize, layout::bytes(size), 255);
-        }
+    if i < 4 && set.has[i] {
+        bytes::fill(
+            buf,
+            layout::bytes(l.starts[i]) as usize,
+            layout::bytes(l.sizes[i]),
+            255,
+        );
     }
 }
 
 // Fills the blocks of all updates of a set with FFh.
+#[tactic(auto, using(crate::specs::WantedStoreLaws::emptying))]
 fn empty_all(buf: &mut [u8], l: Layout, set: Set)
     ensures { buf.new ≡ emptied_to buf.old l set 4 }
 {
-    let mut i: usize = 0;
-    while i < 4 {
+    for i in 0..4 {
         empty_update(buf, l, set, i);
-        i += 1;
     }
 }
 
-// Puts a candidate of T bytes at a start, and FFh behind it to the end of its run of `n` blocks.
-fn put_candidate(buf: &mut [u8], start: u32, candidate: &[u8], t: u32, n: u32)
-    ensures { buf.new ≡ candidate_at buf.old start candidate.now t n }
+// Puts a candidate at a start, and FFh behind it to the end of its run of blocks.
+#[tactic(auto, unfolding(crate::specs::WantedStores::candidate_at))]
+fn put_candidate(buf: &mut [u8], start: u32, candidate: Candidate)
+    ensures { buf.new ≡ candidate_at buf.old start candidate.entry.bytes.now
+        candidate.entry.total candidate.entry.blocks }
 {
-    bytes::fill(buf, layout::bytes(start) as usize, layout::bytes(n), 255);
-    bytes::put(buf, layout::bytes(start) as usize, candidate, t);
+    let at = layout::bytes(start) as usize;
+    bytes::fill(buf, at, layout::bytes(candidate.blocks), 255);
+    bytes::put(buf, at, candidate.bytes, candidate.total);
 }
 
 // Whether two buffers have the same first `n` bytes.
+#[tactic(auto, using(crate::specs::JudgedAnswerLaws::fronts))]
 fn same(a: &[u8], b: &[u8], n: usize) -> bool
     ensures { result ≡ same_first a.now b.now n }
 {
-    let mut i: usize = 0;
-    while i < n {
-        if i >= a.len() {
-            return false;
-        }
-        if i >= b.len() {
-            return false;
-        }
-        if a[i] != b[i] {
-            return false;
-        }
-        i += 1;
-    }
-    true
+    n <= a.len() && n <= b.len() && a[..n] == b[..n]
 }
 
 // Whether a write that was done is the best outcome.
-fn written_right(l: Layout, o: Outcome, start: u32, emptied: u32, blocks: u32) -> bool
-    ensures { result ≡ written_right l o start emptied blocks }
+#[tactic(auto, unfolding(crate::specs::JudgedAnswers::written_right))]
+fn written_right(l: Layout, best: Option<Outcome>, start: u32, emptied: u32, blocks: u32) -> bool
+    ensures { result ≡ written_right l best start emptied blocks }
 {
-    if o.found {
-        if start != o.start {
-            return false;
-        }
-        if emptied != o.emptied {
-            return false;
-        }
-        let set = o.set;
-        let want = set_blocks::bits(l, set);
-        blocks == want
-    } else {
-        false
-    }
+    best.is_some_and(|o| {
+        start == o.start && emptied == o.emptied && blocks == set_blocks::bits(l, o.set)
+    })
 }
 
 // AL of a refusal for want of room.
+#[tactic(auto, unfolding(crate::specs::JudgedAnswers::full_al))]
 fn full_al(l: Layout) -> u8
     ensures { result ≡ full_al l }
 {
@@ -128,93 +119,62 @@ fn full_al(l: Layout) -> u8
 }
 
 // Whether a refusal is right: there is no legal outcome, and the codes say why.
-fn refused_right(l: Layout, o: Outcome, ah: u8, al: u8, status: u32) -> bool
-    ensures { result ≡ refused_right l o ah al status }
+#[tactic(auto, unfolding(crate::specs::JudgedAnswers::refused_right))]
+fn refused_right(l: Layout, best: Option<Outcome>, ah: u8, al: u8, status: u32) -> bool
+    ensures { result ≡ refused_right l best ah al status }
 {
-    if o.found {
-        return false;
-    }
-    if ah != code::STORAGE_FULL {
-        return false;
-    }
-    let want = full_al(l);
-    if al != want {
-        return false;
-    }
-    status == 0
+    best.is_none() && ah == code::STORAGE_FULL && al == full_al(l) && status == 0
 }
 
 // An answer compared with the best outcome.
-fn judged(answer: Answer, l: Layout, o: Outcome) -> Seen
-    ensures { result ≡ judged answer l o }
+fn judged(answer: Answer, l: Layout, best: Option<Outcome>) -> Seen
+    ensures { result ≡ judged answer l best }
 {
     match answer {
         Answer::Written(w) => Seen {
-            same: written_right(l, o, w.start, w.emptied, w.emptied_blocks),
-            written: true,
-            number: w.emptied,
+            same: written_right(l, best, w.start, w.emptied, w.emptied_blocks),
+            became: Ok(w.emptied),
         },
         Answer::Refused(r) => Seen {
-            same: refused_right(l, o, r.ah, r.al, r.status),
-            written: false,
-            number: r.al as u32,
+            same: refused_right(l, best, r.ah, r.al, r.status),
+            became: Err(r.al),
         },
-        Answer::Presence(_) => Seen {
+        Answer::Presence(_) | Answer::Control(_) | Answer::Read(_) => Seen {
             same: false,
-            written: false,
-            number: 0,
-        },
-        Answer::Control(_) => Seen {
-            same: false,
-            written: false,
-            number: 0,
-        },
-        Answer::Read(_) => Seen {
-            same: false,
-            written: false,
-            number: 0,
+            became: Err(0),
         },
     }
 }
 
 // Makes the store and the bytes of the best outcome, or the same bytes where there is none.
+#[tactic(auto, unfolding(crate::specs::WantedStores::wanted_in, crate::specs::WantedStores::wanted_of))]
 fn prepare(
     store: &mut [u8],
     wanted: &mut [u8],
     l: Layout,
-    o: Outcome,
-    candidate: &[u8],
-    t: u32,
-    n: u32,
+    best: Option<Outcome>,
+    candidate: Candidate,
 )
     ensures stores { store.new ≡ store_of store.old l }
-    ensures wants { wanted.new ≡ wanted_in wanted.old (store_of store.old l) l o
-        candidate.now t n }
+    ensures wants { wanted.new ≡ wanted_in wanted.old (store_of store.old l) l best
+        candidate.entry.bytes.now candidate.entry.total candidate.entry.blocks }
 {
     make::store(store, l);
     bytes::put(wanted, 0, store, 12288);
-    if o.found {
-        let set = o.set;
-        empty_all(wanted, l, set);
-        put_candidate(wanted, o.start, candidate, t, n);
+    if let Some(o) = best {
+        empty_all(wanted, l, o.set);
+        put_candidate(wanted, o.start, candidate);
     }
 }
 
-// The write of a candidate of T bytes, which takes `n` blocks, to the store of a layout.
-pub fn trial(
-    store: &mut [u8],
-    wanted: &mut [u8],
-    l: Layout,
-    candidate: &[u8],
-    t: u32,
-    n: u32,
-) -> Seen {
-    let o = outcomes::best(l, n);
-    prepare(store, wanted, l, o, candidate, t, n);
-    let answer = call(store, layout::bytes(l.blocks) as usize, candidate);
-    let mut seen = judged(answer, l, o);
-    if !same(store, wanted, 12288) {
-        seen.same = false;
+// The write of a candidate to the store of a layout.
+pub fn trial(store: &mut [u8], wanted: &mut [u8], l: Layout, candidate: Candidate) -> Seen {
+    let best = outcomes::best(l, candidate.blocks);
+    prepare(store, wanted, l, best, candidate);
+    let answer = call(store, layout::bytes(l.blocks) as usize, candidate.bytes);
+    let seen = judged(answer, l, best);
+    Seen {
+        same: seen.same && same(store, wanted, 12288),
+        became: seen.became,
     }
-    seen
 }
