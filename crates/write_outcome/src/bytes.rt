@@ -9,6 +9,7 @@ use store_blocks::MOST_BLOCKS;
 use update_sizes::{BLOCK, BLOCK_ROUNDING};
 
 // The update of `size` blocks from `start` on is emptied, if it is marked.
+#[tactic(auto, using(crate::proofs::EmptiedEntries::emptying))]
 fn empty_if(gone: bool, store: &mut [u8], start: u8, size: u8)
     requires { start * 2048 + size * 2048 ≤ length store.old }
     ensures { store.new ≡ empty_if gone store.old start size }
@@ -19,6 +20,7 @@ fn empty_if(gone: bool, store: &mut [u8], start: u8, size: u8)
 }
 
 // The marked ones of the first `count` entries are emptied.
+#[tactic(auto, using(crate::proofs::EmptiedEntries::marking))]
 fn empty_marked<'a>(
     store: &mut [u8],
     starts: &'a [u8; MOST_BLOCKS],
@@ -29,15 +31,14 @@ fn empty_marked<'a>(
     requires { Entries store.old starts.now sizes.now count }
     ensures { store.new ≡ cleared store.old (marked starts.now gone count) }
 {
-    let mut i: usize = 0;
-    while i < count {
+    for i in 0..count {
         empty_if(gone[i], store, starts[i], sizes[i]);
-        i += 1;
     }
 }
 
 // All the bytes of a write: the marked ones of the first `count` entries are emptied, and the candidate's `t` bytes stand at block `start`,
 // FFh behind them to the end of its last block.
+#[tactic(auto, using(crate::proofs::EmptiedEntries::all_written), unfolding(update_sizes::specs::Sizes::blocks_of))]
 pub fn write_bytes<'a>(
     store: &mut [u8],
     starts: &'a [u8; MOST_BLOCKS],
