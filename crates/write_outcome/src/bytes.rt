@@ -21,10 +21,10 @@ fn empty_if(gone: bool, store: &mut [u8], start: u8, size: u8)
 
 // The marked ones of the first `count` entries are emptied.
 #[tactic(auto, using(crate::proofs::EmptiedEntries::marking))]
-fn empty_marked<'a>(
+fn empty_marked(
     store: &mut [u8],
-    starts: &'a [u8; MOST_BLOCKS],
-    sizes: &'a [u8; MOST_BLOCKS],
+    starts: &[u8; MOST_BLOCKS],
+    sizes: &[u8; MOST_BLOCKS],
     gone: [bool; MOST_BLOCKS],
     count: usize,
 )
@@ -38,11 +38,12 @@ fn empty_marked<'a>(
 
 // All the bytes of a write: the marked ones of the first `count` entries are emptied, and the candidate's `t` bytes stand at block `start`,
 // FFh behind them to the end of its last block.
+// The entries are lent as arrays: they are fields of the caller's, and a struct of them here would have to be copied together.
 #[tactic(auto, using(crate::proofs::EmptiedEntries::all_written), unfolding(update_sizes::specs::Sizes::blocks_of))]
-pub fn write_bytes<'a>(
+pub fn write_bytes(
     store: &mut [u8],
-    starts: &'a [u8; MOST_BLOCKS],
-    sizes: &'a [u8; MOST_BLOCKS],
+    starts: &[u8; MOST_BLOCKS],
+    sizes: &[u8; MOST_BLOCKS],
     gone: [bool; MOST_BLOCKS],
     count: usize,
     start: u32,
