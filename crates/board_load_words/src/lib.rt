@@ -18,12 +18,8 @@ pub fn load_ax(c: LoadChoice) -> u32
     ensures { result ≡ load_ax c }
 {
     match c {
-        LoadChoice::Refused { ah, al } => ah as u32 * 256 + al as u32,
-        LoadChoice::Nothing => 0,
-        LoadChoice::Chosen {
-            start: _,
-            revision: _,
-        } => 0,
+        Err(refusal) => u32::from(refusal.ah()) * 256 + u32::from(refusal.al()),
+        Ok(_) => 0,
     }
 }
 
@@ -34,12 +30,22 @@ pub fn load_words(c: LoadChoice, loading: bool, store: &[u8], answer: &mut [u32;
 {
     let on = board_row::flag_word(loading);
     match c {
-        LoadChoice::Refused { ah, al } => board_row::put(answer, ah, al, on, 2, 0, 0, 0, 0),
-        LoadChoice::Nothing => board_row::put(answer, 0, 0, on, 0, 0, 0, 0, 0),
-        LoadChoice::Chosen { start, revision } => {
-            let offset = start * BLOCK + HEADER;
-            let count = fields::data_size(store_blocks::from_block(store, start));
-            board_row::put(answer, 0, 0, on, 1, start, revision, offset, count)
+        Err(refusal) => board_row::put(answer, refusal.ah(), refusal.al(), on, 2, 0, 0, 0, 0),
+        Ok(None) => board_row::put(answer, 0, 0, on, 0, 0, 0, 0, 0),
+        Ok(Some(chosen)) => {
+            let offset = chosen.start * BLOCK + HEADER;
+            let count = fields::data_size(store_blocks::from_block(store, chosen.start));
+            board_row::put(
+                answer,
+                0,
+                0,
+                on,
+                1,
+                chosen.start,
+                chosen.revision,
+                offset,
+                count,
+            )
         }
     }
 }

@@ -2,4 +2,5 @@
 pub mod Codes
 pub mod Answers
 pub mod Refusals
+pub mod Choice
 pub mod AnswerLaws

@@ -43,7 +43,7 @@ use Rattle.load_choice.specs.Load.{holds, load_choice, chosen_data}
 use Rattle.load_choice.specs.LoadLaws.{choice_one, choice_none}
 use Rattle.load_choice.specs.DataLaws.{part_local}
 use Rattle.load_after_write.specs.AfterWrite.{SameLoad, LoadsAfter}
-use Rattle.call_answers.specs.declared.choice.LoadChoice.TheVariants.{Chosen}
+use Rattle.call_answers.specs.Choice.{Chosen}
 
 -- a legal outcome, from old to new, with the set e of emptied updates
 module _ (old : List ℕ) (list : ProcessorList) (cand new : List ℕ) (t d n k start : ℕ) (e : ℕ → Bool)

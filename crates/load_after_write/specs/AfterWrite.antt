@@ -7,7 +7,7 @@ use Rattle.update_header.specs.DataPart.{data_part}
 use Rattle.update_coverage.specs.Covers.{covers}
 use Rattle.processor_list.specs.Processors.{ProcessorList, Listed}
 use Rattle.load_choice.specs.Load.{load_choice, chosen_data}
-use Rattle.call_answers.specs.declared.choice.LoadChoice.TheVariants.{Chosen}
+use Rattle.call_answers.specs.Choice.{Chosen}
 
 abbrev pub SameLoad : List ℕ → List ℕ → ℕ → ℕ → Type 0
 SameLoad old new x p = (load_choice true new x p ≡ load_choice true old x p) × (chosen_data new (load_choice true new x p) ≡ chosen_data old (load_choice true old x p))

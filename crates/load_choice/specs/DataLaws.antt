@@ -1,7 +1,7 @@
 -- The data of a load choice.
 --   matching     the data of a choice, by its cases, as `search` takes them
 --   part_local   an update's data are settled by its T bytes
-use Rattle.std.specs.Prelude.{ℕ, ◌≤◌, ◌≡◌, List, length, take}
+use Rattle.std.specs.Prelude.{ℕ, ◌≤◌, ◌≡◌, List, length, take, Err}
 use Rattle.std.proofs.Common.{◌∙◌, arith}
 use Rattle.laws.specs.Same.{Same}
 use Rattle.update_header.specs.DataPart.{data_part}
@@ -10,8 +10,8 @@ use Rattle.update_verdict.specs.Verdict.{Good, verdict}
 use Rattle.update_verdict.specs.VerdictLaws.{judged, good_size}
 use Rattle.store_blocks.specs.Blocks.{from_block}
 use Rattle.load_choice.specs.Load.{chosen_data}
-use Rattle.call_answers.specs.declared.choice.LoadChoice.{LoadChoice}
-use Rattle.call_answers.specs.declared.choice.LoadChoice.TheVariants.{Refused, Nothing, Chosen}
+use Rattle.call_answers.specs.Choice.{LoadChoice, Nothing, Chosen}
+use Rattle.call_answers.specs.declared.refusal.Refusal.{Refusal}
 
 -- c is the choice that is matched, r the part that a call gave
 module _ (s : List ℕ) (c : LoadChoice) where
@@ -23,9 +23,9 @@ module _ (s : List ℕ) (c : LoadChoice) where
   unfolding chosen_data
   data_nothing h = rw h
 
-  pub data_refused : (ah al : ℕ) → c ≡ Refused ah al → take 0 s ≡ chosen_data s c
+  pub data_refused : (r : Refusal) → c ≡ Err r → take 0 s ≡ chosen_data s c
   unfolding chosen_data
-  data_refused ah al h = rw h
+  data_refused r h = rw h
 
 pub ruleset matching = (data_chosen, data_nothing, data_refused)
 

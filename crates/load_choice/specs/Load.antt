@@ -6,7 +6,7 @@
 --   found         the choice in a valid store, with loading on
 --   load_choice   the whole order
 --   chosen_data   the data bytes of a choice: none but where an update is chosen
-use Rattle.std.specs.Prelude.{ℕ, Bool, ◌&&◌, List, [], leb, ltb}
+use Rattle.std.specs.Prelude.{ℕ, Bool, ◌&&◌, List, [], leb, ltb, Some, None, Ok, Err}
 use Rattle.laws.specs.First.{first_below}
 use Rattle.laws.specs.Unless.{unless}
 use Rattle.update_header.specs.Fields.{revision}
@@ -14,9 +14,8 @@ use Rattle.update_header.specs.DataPart.{data_part}
 use Rattle.update_coverage.specs.Covers.{covers}
 use Rattle.store_blocks.specs.Blocks.{from_block, block_count}
 use Rattle.store_directory.specs.Scan.{first, store_ok}
-use Rattle.call_answers.specs.Codes.{read_failure, bad_store, bad_processors}
-use Rattle.call_answers.specs.declared.choice.LoadChoice.{LoadChoice}
-use Rattle.call_answers.specs.declared.choice.LoadChoice.TheVariants.{Refused, Nothing, Chosen}
+use Rattle.call_answers.specs.Choice.{LoadChoice, Nothing, Chosen}
+use Rattle.call_answers.specs.declared.refusal.Refusal.TheVariants.{BadStore, BadProcessors}
 
 unfoldable pub holds : List ℕ → ℕ → ℕ → ℕ → Bool
 holds s x p b = first s b && covers (from_block s b) x p
@@ -33,12 +32,12 @@ found s x p = chosen_at s (holder s x p)
 
 unfoldable pub load_choice : Bool → List ℕ → ℕ → ℕ → LoadChoice
 load_choice loading s x p =
-    unless (store_ok s) (Refused read_failure bad_store)
-    (unless (leb p 7) (Refused read_failure bad_processors)
+    unless (store_ok s) (Err BadStore)
+    (unless (leb p 7) (Err BadProcessors)
     (unless loading Nothing
     (found s x p)))
 
 unfoldable pub chosen_data : List ℕ → LoadChoice → List ℕ
-chosen_data s (Refused ah al) = []
-chosen_data s Nothing = []
-chosen_data s (Chosen b r) = data_part (from_block s b)
+chosen_data s (Err e) = []
+chosen_data s (Ok None) = []
+chosen_data s (Ok (Some c)) = data_part (from_block s c.start)

@@ -3,7 +3,7 @@
 --   load_inside    it begins below block 32
 --   load_small     the same of a start, from the choice
 --   load_part      its data bytes lie in the store, and are the chosen data
-use Rattle.std.specs.Prelude.{ℕ, ◌+◌, ◌*◌, ◌<◌, ◌≤◌, ◌≡◌, refl, Bool, true, false, List, length, take, drop, leb, ltb}
+use Rattle.std.specs.Prelude.{ℕ, ◌+◌, ◌*◌, ◌<◌, ◌≤◌, ◌≡◌, refl, Bool, true, false, List, length, take, drop, leb, ltb, Err}
 use Rattle.std.proofs.Common.{sym, ap, ◌∙◌, arith, length-drop, drop-drop, ltb-true}
 use Rattle.laws.specs.Orders.{impossible}
 use Rattle.laws.specs.Bools.{and_parts}
@@ -18,20 +18,23 @@ use Rattle.store_directory.specs.Scan.{slot_at, first, store_ok}
 use Rattle.store_directory.specs.SlotLaws.{slotted}
 use Rattle.store_directory.proofs.ValidLaws.{store_valid}
 use Rattle.load_choice.specs.Load.{holds, holder, chosen_at, found, load_choice, chosen_data}
-use Rattle.call_answers.specs.declared.choice.LoadChoice.{LoadChoice}
-use Rattle.call_answers.specs.declared.choice.LoadChoice.TheVariants as choice
+use Rattle.call_answers.specs.Choice.{LoadChoice, Nothing, Chosen}
+use Rattle.call_answers.specs.declared.choice.Chosen.{Chosen as Update}
+use Rattle.call_answers.specs.declared.refusal.Refusal.TheVariants.{BadStore, BadProcessors}
 use Rattle.load_choice.specs.LoadBounds.{StartBelow32, Choice}
 
-chosen_at_lem : (s : List ℕ) (a b r : ℕ) (t : Bool) → ltb a (block_count s) ≡ t → unless t choice.Nothing (choice.Chosen a (revision (from_block s a))) ≡ choice.Chosen b r → (a ≡ b) × (a < block_count s)
+chosen_at_lem : (s : List ℕ) (a b r : ℕ) (t : Bool) → ltb a (block_count s) ≡ t → unless t Nothing (Chosen a (revision (from_block s a))) ≡ Chosen b r → (a ≡ b) × (a < block_count s)
 unfolding unless
-chosen_at_lem s a b r true e h = (cc, ltb-true a (block_count s) e)
+chosen_at_lem s a b r true e h =
+    let q : ◌≡◌ {A = Update} (record { start = a; revision = revision (from_block s a) }) (record { start = b; revision = r }) = cc in
+    (ap (λ (c : Update). c.start) q, ltb-true a (block_count s) e)
 chosen_at_lem s a b r false e h = absurd (impossible (cc))
 
-pub chosen : (loading : Bool) (s : List ℕ) (x p b r : ℕ) → choice.Chosen b r ≡ load_choice loading s x p → Choice s b
+pub chosen : (loading : Bool) (s : List ℕ) (x p b r : ℕ) → Chosen b r ≡ load_choice loading s x p → Choice s b
 unfolding load_choice found chosen_at unless holder holds
 chosen loading s x p b r e = go (store_ok s) refl (leb p 7) loading e
   where
-    go : (t : Bool) → store_ok s ≡ t → (u v : Bool) → choice.Chosen b r ≡ unless t (choice.Refused 0x92 1) (unless u (choice.Refused 0x92 2) (unless v choice.Nothing (found s x p))) → Choice s b
+    go : (t : Bool) → store_ok s ≡ t → (u v : Bool) → Chosen b r ≡ unless t (Err BadStore) (unless u (Err BadProcessors) (unless v Nothing (found s x p))) → Choice s b
     go false k u v q = absurd (impossible (cc))
     go true k false v q = absurd (impossible (cc))
     go true k true false q = absurd (impossible (cc))
@@ -44,12 +47,12 @@ pub load_inside : (c : LoadChoice) (loading : Bool) (s : List ℕ) (x p : ℕ) �
 unfolding StartBelow32
 load_inside c loading s x p e b r h = let y = chosen loading s x p b r (sym h ∙ e) in omega (arith, y.below, (store_valid s y.ok).few)
 
-pub load_small : (c : LoadChoice) (b r : ℕ) → StartBelow32 c → c ≡ choice.Chosen b r → b < 32
+pub load_small : (c : LoadChoice) (b r : ℕ) → StartBelow32 c → c ≡ Chosen b r → b < 32
 unfolding StartBelow32
 load_small c b r i h = i b r h
 
 -- its data bytes lie in the store, and are the chosen data
-pub load_part : (loading : Bool) (s : List ℕ) (x p b r : ℕ) → choice.Chosen b r ≡ load_choice loading s x p
+pub load_part : (loading : Bool) (s : List ℕ) (x p b r : ℕ) → Chosen b r ≡ load_choice loading s x p
     → (b * 2048 + 48 + data_size (from_block s b) ≤ length s) × (take (data_size (from_block s b)) (drop (b * 2048 + 48) s) ≡ chosen_data s (load_choice loading s x p))
 unfolding chosen_data data_part slot_at
 load_part loading s x p b r e =

@@ -4,8 +4,7 @@
 use Rattle.std.specs.Prelude.{ℕ, ◌<◌, ◌≡◌, true, List}
 use Rattle.store_blocks.specs.Blocks.{block_count}
 use Rattle.store_directory.specs.Scan.{first, store_ok}
-use Rattle.call_answers.specs.declared.choice.LoadChoice.{LoadChoice}
-use Rattle.call_answers.specs.declared.choice.LoadChoice.TheVariants.{Chosen}
+use Rattle.call_answers.specs.Choice.{LoadChoice, Chosen}
 
 unfoldable pub StartBelow32 : LoadChoice → Type 0
 StartBelow32 c = (b r : ℕ) → c ≡ Chosen b r → b < 32

@@ -4,7 +4,7 @@
 --   choice_one, choice_none    in a valid store the update that covers the processor is chosen, and nothing where none covers it
 --   finding        the scan of the directory, as `search` takes it
 --   choose_bad .. choose_on    the order of the answers
-use Rattle.std.specs.Prelude.{ℕ, ◌+◌, ◌<◌, ◌≤◌, ◌≡◌, Bool, true, false, List}
+use Rattle.std.specs.Prelude.{ℕ, ◌+◌, ◌<◌, ◌≤◌, ◌≡◌, Bool, true, false, List, Err}
 use Rattle.std.proofs.Common.{sym, ◌∙◌, arith}
 use Rattle.std.proofs.Math.Bool.{true≢false}
 use borrow.Author.Tests.{lt-ltb, le-ltb, le-leb, lt-leb}
@@ -23,8 +23,8 @@ use Rattle.store_directory.specs.DirectoryEntries.{start_of}
 use Rattle.store_directory.proofs.DirectoryLaws.{listing}
 use Rattle.store_directory.specs.declared.Directory.{Directory}
 use Rattle.load_choice.specs.Load.{holds, holder, chosen_at, found, load_choice}
-use Rattle.call_answers.specs.declared.choice.LoadChoice.{LoadChoice}
-use Rattle.call_answers.specs.declared.choice.LoadChoice.TheVariants.{Refused, Nothing, Chosen}
+use Rattle.call_answers.specs.Choice.{LoadChoice, Nothing, Chosen}
+use Rattle.call_answers.specs.declared.refusal.Refusal.TheVariants.{BadStore, BadProcessors}
 
 module _ (s : List ℕ) (ok : store_ok s ≡ true) (x p : ℕ) where
   -- two updates of a valid store that cover the processor are one
@@ -76,12 +76,12 @@ pub ruleset finding = (any_none, find_more, find_stop, find_done)
 
 -- the order: d is the directory that was read, z the answer
 module _ (s : List ℕ) (d : Directory) (loading : Bool) (x p : ℕ) (e : d ≡ directory s) where
-  pub choose_bad : d.ok ≡ false → Refused 0x92 1 ≡ load_choice loading s x p
+  pub choose_bad : d.ok ≡ false → Err BadStore ≡ load_choice loading s x p
   unfolding load_choice unless
   choose_bad h = rw (← directory_ok s d e, h)
 
   module _ (h : d.ok ≡ true) where
-    pub choose_platform : 7 < p → Refused 0x92 2 ≡ load_choice loading s x p
+    pub choose_platform : 7 < p → Err BadProcessors ≡ load_choice loading s x p
     unfolding load_choice unless
     choose_platform l = rw (← directory_ok s d e, h, lt-leb p 7 l)
 

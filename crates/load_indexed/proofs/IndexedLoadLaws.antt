@@ -7,7 +7,7 @@
 --   first_pairs         by its line an update begins at the block, so it has pairs
 --   scan_other .. scan_nothing    the scan of the blocks
 --   indexed_bad .. indexed_on     the order of the answers
-use Rattle.std.specs.Prelude.{ℕ, ◌+◌, ◌/◌, ◌<◌, ◌≤◌, ◌≡◌, Bool, List, get_or, leb, ltb}
+use Rattle.std.specs.Prelude.{ℕ, ◌+◌, ◌/◌, ◌<◌, ◌≤◌, ◌≡◌, Bool, List, get_or, leb, ltb, Err}
 use Rattle.std.proofs.Math.Path.{refl, sym, ap}
 use Rattle.std.proofs.Common.{◌∙◌}
 use Rattle.std.proofs.Math.Bool.{true, false}
@@ -33,9 +33,8 @@ use Rattle.store_index.specs.SameIndex.{same_index}
 use Rattle.store_index.specs.SameIndexLaws.{same_self}
 use Rattle.store_index.proofs.OwnIndex.{own_first, own_revision}
 use Rattle.store_index.specs.declared.Index.{Index}
-use Rattle.call_answers.specs.Codes.{read_failure, bad_store, bad_processors}
-use Rattle.call_answers.specs.declared.choice.LoadChoice.{LoadChoice}
-use Rattle.call_answers.specs.declared.choice.LoadChoice.TheVariants.{Refused, Nothing, Chosen}
+use Rattle.call_answers.specs.Choice.{LoadChoice, Nothing, Chosen}
+use Rattle.call_answers.specs.declared.refusal.Refusal.TheVariants.{BadStore, BadProcessors}
 use Rattle.load_choice.specs.Load.{holds, holder, chosen_at, found, load_choice, chosen_data}
 use Rattle.load_choice.specs.LoadBounds.{StartBelow32}
 use Rattle.load_choice.specs.LoadBoundLaws.{load_inside}
@@ -81,8 +80,8 @@ module _ (loading : Bool) (s : List ℕ) (x : Index) (h : same_index x (index_of
   choice_own = rw h (go (store_ok s) refl)
     where
       go : (t : Bool) → store_ok s ≡ t
-          → unless t (Refused read_failure bad_store) (unless (leb platform 7) (Refused read_failure bad_processors) (unless loading Nothing (found_in s x signature platform)))
-          ≡ unless t (Refused read_failure bad_store) (unless (leb platform 7) (Refused read_failure bad_processors) (unless loading Nothing (found s signature platform)))
+          → unless t (Err BadStore) (unless (leb platform 7) (Err BadProcessors) (unless loading Nothing (found_in s x signature platform)))
+          ≡ unless t (Err BadStore) (unless (leb platform 7) (Err BadProcessors) (unless loading Nothing (found s signature platform)))
       go true e = rw (found_own s e x h signature platform)
       go false e = refl
 
@@ -96,11 +95,11 @@ module _ (loading : Bool) (s : List ℕ) (signature platform : ℕ) where
 
 -- another index is refused
 foreign_choice : (loading : Bool) (s : List ℕ) (x : Index) (signature platform : ℕ) → same_index x (index_of s) ≡ false
-    → indexed_choice loading s x signature platform ≡ Refused read_failure bad_store
+    → indexed_choice loading s x signature platform ≡ Err BadStore
 unfolding indexed_choice unless
 foreign_choice loading s x signature platform h = rw h (go (store_ok s))
   where
-    go : (t : Bool) → unless t (Refused read_failure bad_store) (Refused read_failure bad_store) ≡ Refused read_failure bad_store
+    go : (t : Bool) → unless {A = LoadChoice} t (Err BadStore) (Err BadStore) ≡ Err BadStore
     go true = refl
     go false = refl
 
@@ -140,17 +139,17 @@ module _ (s : List ℕ) (x : Index) (signature platform b n : ℕ) (all : n ≡ 
 
 -- the order: d is the directory that was read, t whether x is the store's own index, z the answer
 module _ (loading : Bool) (s : List ℕ) (x : Index) (signature platform : ℕ) (d : Directory) (e : d ≡ directory s) where
-  pub indexed_bad : d.ok ≡ false → Refused read_failure bad_store ≡ indexed_choice loading s x signature platform
+  pub indexed_bad : d.ok ≡ false → Err BadStore ≡ indexed_choice loading s x signature platform
   unfolding indexed_choice unless
   indexed_bad h = rw (← directory_ok s d e, h)
 
   module _ (ok : d.ok ≡ true) (t : Bool) (g : t ≡ same_index x (index_of s)) where
-    pub indexed_foreign : t ≡ false → Refused read_failure bad_store ≡ indexed_choice loading s x signature platform
+    pub indexed_foreign : t ≡ false → Err BadStore ≡ indexed_choice loading s x signature platform
     unfolding indexed_choice unless
     indexed_foreign h = rw (← directory_ok s d e, ok, ← g, h)
 
     module _ (h : t ≡ true) where
-      pub indexed_platform : 7 < platform → Refused read_failure bad_processors ≡ indexed_choice loading s x signature platform
+      pub indexed_platform : 7 < platform → Err BadProcessors ≡ indexed_choice loading s x signature platform
       unfolding indexed_choice unless
       indexed_platform l = rw (← directory_ok s d e, ok, ← g, h, lt-leb platform 7 l)
 

@@ -4,7 +4,7 @@
 --   chosen_in             the choice, where the update begins at block b: its revision is the line's
 --   found_in              the choice by the index of a valid store, with loading on
 --   indexed_choice        the whole order
-use Rattle.std.specs.Prelude.{ℕ, Bool, ◌&&◌, List, eqb, leb, ltb}
+use Rattle.std.specs.Prelude.{ℕ, Bool, ◌&&◌, List, eqb, leb, ltb, Err}
 use Rattle.laws.specs.First.{first_below}
 use Rattle.laws.specs.Unless.{unless}
 use Rattle.update_coverage.specs.Covers.{covers}
@@ -13,9 +13,8 @@ use Rattle.store_directory.specs.Scan.{store_ok}
 use Rattle.store_index.specs.Index.{first, line_of, index_of}
 use Rattle.store_index.specs.SameIndex.{same_index}
 use Rattle.store_index.specs.declared.Index.{Index}
-use Rattle.call_answers.specs.Codes.{read_failure, bad_store, bad_processors}
-use Rattle.call_answers.specs.declared.choice.LoadChoice.{LoadChoice}
-use Rattle.call_answers.specs.declared.choice.LoadChoice.TheVariants.{Refused, Nothing, Chosen}
+use Rattle.call_answers.specs.Choice.{LoadChoice, Nothing, Chosen}
+use Rattle.call_answers.specs.declared.refusal.Refusal.TheVariants.{BadStore, BadProcessors}
 
 unfoldable pub holds_in : List ℕ → Index → ℕ → ℕ → ℕ → Bool
 holds_in s x signature platform b = eqb (line_of x b).kind first && covers (from_block s b) signature platform
@@ -29,8 +28,8 @@ found_in s x signature platform = chosen_in x (block_count s) (first_below (bloc
 
 unfoldable pub indexed_choice : Bool → List ℕ → Index → ℕ → ℕ → LoadChoice
 indexed_choice loading s x signature platform =
-    unless (store_ok s) (Refused read_failure bad_store)
-    (unless (same_index x (index_of s)) (Refused read_failure bad_store)
-    (unless (leb platform 7) (Refused read_failure bad_processors)
+    unless (store_ok s) (Err BadStore)
+    (unless (same_index x (index_of s)) (Err BadStore)
+    (unless (leb platform 7) (Err BadProcessors)
     (unless loading Nothing
     (found_in s x signature platform))))

@@ -1,7 +1,7 @@
 // The load choice through an index.
 #![tactic(auto)]
 
-ghost use Rattle.std.specs.Prelude.{◌≡◌, true};
+ghost use Rattle.std.specs.Prelude.{◌≡◌, true, Ok};
 ghost use Rattle.store_directory.specs.Scan.{store_ok};
 ghost use Rattle.store_index.specs.Index.{index_of};
 ghost use Rattle.store_index.specs.IndexColumns.{index_in};
@@ -9,8 +9,8 @@ ghost use Rattle.store_index.specs.SameIndex.{same_index};
 ghost use Rattle.load_choice.specs.Load.{chosen_data};
 ghost use Rattle.load_indexed.specs.IndexedLoad.{found_in, indexed_choice};
 
-use call_answers::choice::LoadChoice;
-use call_answers::code;
+use call_answers::choice::{Chosen, LoadChoice};
+use call_answers::refusal::Refusal;
 use store_blocks::{BLOCK, MOST_BLOCKS};
 use store_index::{COLUMNS, Index, KINDS, REVISIONS, own};
 
@@ -20,13 +20,11 @@ fn find_in(
     columns: &[[u32; MOST_BLOCKS]; COLUMNS],
     signature: u32,
     platform: u32,
-) -> LoadChoice
+) -> Option<Chosen>
     requires { (store_ok store.now ≡ true) × (same_index (index_in columns.now) (index_of store.now) ≡ true) }
-    ensures { result ≡ found_in store.now (index_in columns.now) signature platform }
+    ensures { Ok result ≡ found_in store.now (index_in columns.now) signature platform }
 {
-    let n = store.len() / BLOCK;
-    let mut b: usize = 0;
-    while b < n {
+    for b in 0..store.len() / BLOCK {
         if columns[KINDS][b] == store_index::FIRST {
             let u = store_blocks::from_block(store, b as u32);
             if update_coverage::covers_with(
@@ -35,17 +33,14 @@ fn find_in(
                 signature,
                 platform,
             ) {
-                return LoadChoice::Chosen {
+                return Some(Chosen {
                     start: b as u32,
                     revision: columns[REVISIONS][b],
-                };
+                });
             }
-            b += 1;
-        } else {
-            b += 1;
         }
     }
-    LoadChoice::Nothing
+    None
 }
 
 // The choice for a processor. The store is read once; then its own index, which is lent, decides.
@@ -60,33 +55,19 @@ pub fn choose_by(
     ensures { result ≡ indexed_choice loading store.now (index_in columns.now) signature platform }
 {
     let d = store_directory::read_store(store);
-    let ok = d.ok;
-    if ok {
-        if own::is_own(store, d.count, &d.starts, &d.sizes, columns) {
-            if platform <= 7 {
-                if loading {
-                    find_in(store, columns, signature, platform)
-                } else {
-                    LoadChoice::Nothing
-                }
-            } else {
-                LoadChoice::Refused {
-                    ah: code::READ_FAILURE,
-                    al: code::BAD_PROCESSORS,
-                }
-            }
-        } else {
-            LoadChoice::Refused {
-                ah: code::READ_FAILURE,
-                al: code::BAD_STORE,
-            }
-        }
-    } else {
-        LoadChoice::Refused {
-            ah: code::READ_FAILURE,
-            al: code::BAD_STORE,
-        }
+    if !d.ok {
+        return Err(Refusal::BadStore);
     }
+    if !own::is_own(store, d.count, &d.starts, &d.sizes, columns) {
+        return Err(Refusal::BadStore);
+    }
+    if platform > 7 {
+        return Err(Refusal::BadProcessors);
+    }
+    if !loading {
+        return Ok(None);
+    }
+    Ok(find_in(store, columns, signature, platform))
 }
 
 // The same with an index by value.

@@ -126,14 +126,14 @@ pub fn destination<P: Print>(out: &P, s: &[u8]) -> io::Result<()> {
 pub fn load<P: Print>(out: &P, label: &[u8], choice: LoadChoice, data: &[u8]) -> io::Result<()> {
     test_output::text(out, label)?;
     match choice {
-        LoadChoice::Refused { ah, al } => {
-            test_output::code(out, b": refused, AH ", wide(ah))?;
-            test_output::code(out, b", AL ", wide(al))?;
+        Err(refusal) => {
+            test_output::code(out, b": refused, AH ", wide(refusal.ah()))?;
+            test_output::code(out, b", AL ", wide(refusal.al()))?;
         }
-        LoadChoice::Nothing => test_output::text(out, b": nothing")?,
-        LoadChoice::Chosen { start, revision } => {
-            test_output::number(out, b": start ", start)?;
-            test_output::number(out, b", revision ", revision)?;
+        Ok(None) => test_output::text(out, b": nothing")?,
+        Ok(Some(chosen)) => {
+            test_output::number(out, b": start ", chosen.start)?;
+            test_output::number(out, b", revision ", chosen.revision)?;
         }
     }
     let n = data.len();

@@ -6,7 +6,7 @@
 --   load_indexed_line  its line, which changes no byte
 use Rattle.std.specs.Prelude.{ℕ, false, List, length}
 use Rattle.call_answers.specs.declared.answer.Answer.{Answer}
-use Rattle.call_answers.specs.declared.choice.LoadChoice.{LoadChoice}
+use Rattle.call_answers.specs.Choice.{LoadChoice}
 use Rattle.store_index.specs.IndexColumns.{index_in}
 use Rattle.call_indexed.specs.IndexedRead.{indexed_answer, indexed_bytes}
 use Rattle.load_indexed.specs.IndexedLoad.{indexed_choice}
