@@ -12,9 +12,9 @@ use Rattle.board_load_words.specs.LoadWords.{load_words}
 
 -- the words r of each load choice
 module _ (c : LoadChoice) (loading : Bool) (s : List ℕ) (on : ℕ) (e : on ≡ flag_word loading) (r : List ℕ) where
-  pub load_refused_words : (y : Refusal) → c ≡ Err y → r ≡ row_of (ah_for y) (al_for y) on 2 0 0 0 0 → r ≡ load_words loading s c
+  pub load_refused_words : (y : Refusal) (ah al : ℕ) → c ≡ Err y → ah ≡ ah_for y → al ≡ al_for y → r ≡ row_of ah al on 2 0 0 0 0 → r ≡ load_words loading s c
   unfolding load_words row_of
-  load_refused_words y h k = k ∙ rw (h, e)
+  load_refused_words y ah al h p q k = k ∙ rw (h, e, p, q)
 
   pub load_nothing_words : c ≡ Nothing → r ≡ row_of 0 0 on 0 0 0 0 0 → r ≡ load_words loading s c
   unfolding load_words row_of

@@ -14,16 +14,18 @@ const BLOCK: u32 = store_blocks::BLOCK as u32;
 const HEADER: u32 = update_sizes::HEADER as u32;
 
 // The image of AX of a load choice.
+#[tactic(auto, unfolding(crate::specs::LoadWords::load_ax))]
 pub fn load_ax(c: LoadChoice) -> u32
     ensures { result ≡ load_ax c }
 {
     match c {
-        Err(refusal) => u32::from(refusal.ah()) * 256 + u32::from(refusal.al()),
+        Err(refusal) => board_row::ax(refusal.ah(), refusal.al()),
         Ok(_) => 0,
     }
 }
 
 // Writes the words of a load choice.
+#[tactic(auto, unfolding(crate::specs::LoadWords::load_words, board_row::specs::Row::row_of))]
 pub fn load_words(c: LoadChoice, loading: bool, store: &[u8], answer: &mut [u32; 16])
     requires { StartBelow32 c }
     ensures { answer.new ≡ load_words loading store.now c }

@@ -1,9 +1,9 @@
 -- A chosen update lies in the store.
 --   chosen         an update of a valid store begins at a chosen start
 --   load_inside    it begins below block 32
---   load_small     the same of a start, from the choice
+--   load_small, load_start    the same of a start, from the choice
 --   load_part      its data bytes lie in the store, and are the chosen data
-use Rattle.std.specs.Prelude.{ℕ, ◌+◌, ◌*◌, ◌<◌, ◌≤◌, ◌≡◌, refl, Bool, true, false, List, length, take, drop, leb, ltb, Err}
+use Rattle.std.specs.Prelude.{ℕ, ◌+◌, ◌*◌, ◌<◌, ◌≤◌, ◌≡◌, refl, Bool, true, false, List, length, take, drop, leb, ltb, Option, Some, Ok, Err}
 use Rattle.std.proofs.Common.{sym, ap, ◌∙◌, arith, length-drop, drop-drop, ltb-true}
 use Rattle.laws.specs.Orders.{impossible}
 use Rattle.laws.specs.Bools.{and_parts}
@@ -50,6 +50,10 @@ load_inside c loading s x p e b r h = let y = chosen loading s x p b r (sym h �
 pub load_small : (c : LoadChoice) (b r : ℕ) → StartBelow32 c → c ≡ Chosen b r → b < 32
 unfolding StartBelow32
 load_small c b r i h = i b r h
+
+-- of a choice taken apart in two steps
+pub load_start : (c : LoadChoice) (o : Option Update) (u : Update) → StartBelow32 c → c ≡ Ok o → o ≡ Some u → u.start < 32
+load_start c o u i h k = load_small c u.start u.revision i (h ∙ ap (λ (x : Option Update). Ok x) k)
 
 -- its data bytes lie in the store, and are the chosen data
 pub load_part : (loading : Bool) (s : List ℕ) (x p b r : ℕ) → Chosen b r ≡ load_choice loading s x p

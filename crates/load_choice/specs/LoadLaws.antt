@@ -4,7 +4,7 @@
 --   choice_one, choice_none    in a valid store the update that covers the processor is chosen, and nothing where none covers it
 --   finding        the scan of the directory, as `search` takes it
 --   choose_bad .. choose_on    the order of the answers
-use Rattle.std.specs.Prelude.{ℕ, ◌+◌, ◌<◌, ◌≤◌, ◌≡◌, Bool, true, false, List, Err}
+use Rattle.std.specs.Prelude.{ℕ, ◌+◌, ◌<◌, ◌≤◌, ◌≡◌, Bool, true, false, List, Some, Err}
 use Rattle.std.proofs.Common.{sym, ◌∙◌, arith}
 use Rattle.std.proofs.Math.Bool.{true≢false}
 use borrow.Author.Tests.{lt-ltb, le-ltb, le-leb, lt-leb}
@@ -16,8 +16,8 @@ use Rattle.update_header.specs.Fields.{revision}
 use Rattle.update_coverage.specs.Covers.{covers}
 use Rattle.update_coverage.proofs.CoverLaws.{covers_platform}
 use Rattle.store_blocks.specs.Blocks.{from_block, block_count}
-use Rattle.store_directory.specs.Scan.{first, store_ok, directory}
-use Rattle.store_directory.proofs.StoreLaws.{directory_ok, directory_good}
+use Rattle.store_directory.specs.Scan.{first, store_ok, stored}
+use Rattle.store_directory.proofs.StoreLaws.{stored_some}
 use Rattle.store_directory.proofs.ValidLaws.{store_valid}
 use Rattle.store_directory.specs.DirectoryEntries.{start_of}
 use Rattle.store_directory.proofs.DirectoryLaws.{listing}
@@ -51,7 +51,7 @@ unfoldable pub covers_entry : List ℕ → Directory → ℕ → ℕ → ℕ →
 covers_entry s d x p i = covers (from_block s (start_of d i)) x p
 
 -- the scan: r is what a call answered of the part u at the start of entry i
-module _ (s u : List ℕ) (d : Directory) (x p i start : ℕ) (r : Bool) (e : d ≡ directory s) (ok : d.ok ≡ true) (st : start ≡ start_of d i)
+module _ (s u : List ℕ) (d : Directory) (x p i start : ℕ) (r : Bool) (read : stored s ≡ Some d) (st : start ≡ start_of d i)
     (part : u ≡ from_block s start) (h : r ≡ covers u x p) where
   pub find_more : any_below i (covers_entry s d x p) ≡ false → r ≡ false → any_below (i + 1) (covers_entry s d x p) ≡ false
   unfolding covers_entry
@@ -60,38 +60,40 @@ module _ (s u : List ℕ) (d : Directory) (x p i start : ℕ) (r : Bool) (e : d 
   pub find_stop : (v : ℕ) → i < d.count → r ≡ true → v ≡ revision u → Chosen start v ≡ found s x p
   unfolding found chosen_at unless
   find_stop v l k q =
-      let good = directory_good s d e ok in
-      let y = listing s good d e in
+      let w = stored_some s d read in
+      let good = w.1 in
+      let y = listing s good d w.0 in
       let b : start < block_count s = rw st (omega (arith, y.ends i l, y.some i l)) in
       rw (holder_one s good x p start b (rw st (y.begin i l)) (rw (← part) (sym h ∙ k)), lt-ltb start (block_count s) b, q, part)
 
-pub find_done : (s : List ℕ) (d : Directory) (x p i : ℕ) → d ≡ directory s → d.ok ≡ true → any_below i (covers_entry s d x p) ≡ false → i ≤ d.count → d.count ≤ i → Nothing ≡ found s x p
+pub find_done : (s : List ℕ) (d : Directory) (x p i : ℕ) → stored s ≡ Some d → any_below i (covers_entry s d x p) ≡ false → i ≤ d.count → d.count ≤ i → Nothing ≡ found s x p
 unfolding found chosen_at unless covers_entry
-find_done s d x p i e ok none l m =
-    let good = directory_good s d e ok in
-    let y = listing s good d e in
+find_done s d x p i read none l m =
+    let v = stored_some s d read in
+    let good = v.1 in
+    let y = listing s good d v.0 in
     rw (holder_none s good x p (λ b q f. let w = y.every b q f in rw w.2 at (any_fails (covers_entry s d x p) i w.0 none (omega (arith, w.1)))), le-ltb (block_count s) (block_count s) (omega arith))
 
 pub ruleset finding = (any_none, find_more, find_stop, find_done)
 
--- the order: d is the directory that was read, z the answer
-module _ (s : List ℕ) (d : Directory) (loading : Bool) (x p : ℕ) (e : d ≡ directory s) where
-  pub choose_bad : d.ok ≡ false → Err BadStore ≡ load_choice loading s x p
+-- the order: z is the answer
+module _ (s : List ℕ) (loading : Bool) (x p : ℕ) where
+  pub choose_bad : store_ok s ≡ false → Err BadStore ≡ load_choice loading s x p
   unfolding load_choice unless
-  choose_bad h = rw (← directory_ok s d e, h)
+  choose_bad h = rw h
 
-  module _ (h : d.ok ≡ true) where
+  module _ (h : store_ok s ≡ true) where
     pub choose_platform : 7 < p → Err BadProcessors ≡ load_choice loading s x p
     unfolding load_choice unless
-    choose_platform l = rw (← directory_ok s d e, h, lt-leb p 7 l)
+    choose_platform l = rw (h, lt-leb p 7 l)
 
     pub choose_off : p ≤ 7 → loading ≡ false → Nothing ≡ load_choice loading s x p
     unfolding load_choice unless
-    choose_off l k = rw (← directory_ok s d e, h, le-leb p 7 l, k)
+    choose_off l k = rw (h, le-leb p 7 l, k)
 
     pub choose_on : (z : LoadChoice) → p ≤ 7 → loading ≡ true → z ≡ found s x p → z ≡ load_choice loading s x p
     unfolding load_choice unless
-    choose_on z l k q = rw (← directory_ok s d e, h, le-leb p 7 l, k) q
+    choose_on z l k q = rw (h, le-leb p 7 l, k) q
 
 module _ (s : List ℕ) (ok : store_ok s ≡ true) (x p : ℕ) (l : p ≤ 7) where
   pub choice_one : (b : ℕ) → b < block_count s → first s b ≡ true → covers (from_block s b) x p ≡ true → load_choice true s x p ≡ Chosen b (revision (from_block s b))

@@ -1,8 +1,8 @@
 // The load choice at start-up: which stored update a processor gets, and its data as a part of the lent store.
 #![tactic(auto)]
 
-ghost use Rattle.std.specs.Prelude.{◌≡◌, true, Ok};
-ghost use Rattle.store_directory.specs.Scan.{directory};
+ghost use Rattle.std.specs.Prelude.{◌≡◌, Some, Ok};
+ghost use Rattle.store_directory.specs.Scan.{stored};
 ghost use Rattle.load_choice.specs.Load.{found, load_choice, chosen_data};
 
 use call_answers::choice::{Chosen, LoadChoice};
@@ -12,8 +12,8 @@ use update_header::data::data_part;
 use update_header::fields;
 
 // The stored update that covers the processor, by the directory of the store.
-fn find(store: &[u8], d: Directory, signature: u32, platform: u32) -> Option<Chosen>
-    requires { (d ≡ directory store.now) × (d.ok ≡ true) }
+fn find(store: &[u8], d: &Directory, signature: u32, platform: u32) -> Option<Chosen>
+    requires { stored store.now ≡ Some d.now }
     ensures { Ok result ≡ found store.now signature platform }
 {
     for i in 0..d.count {
@@ -30,21 +30,18 @@ fn find(store: &[u8], d: Directory, signature: u32, platform: u32) -> Option<Cho
 }
 
 // The choice for a processor.
-#[tactic(auto, using(crate::specs::LoadLaws::choose_platform))]
+#[tactic(auto, using(crate::specs::LoadLaws::choose_platform, store_directory::proofs::StoreLaws::stored_good))]
 pub fn choose(loading: bool, store: &[u8], signature: u32, platform: u32) -> LoadChoice
     ensures { result ≡ load_choice loading store.now signature platform }
 {
-    let d = store_directory::read_store(store);
-    if !d.ok {
-        return Err(Refusal::BadStore);
-    }
+    let d = store_directory::read_store(store).ok_or(Refusal::BadStore)?;
     if platform > 7 {
         return Err(Refusal::BadProcessors);
     }
     if !loading {
         return Ok(None);
     }
-    Ok(find(store, d, signature, platform))
+    Ok(find(store, &d, signature, platform))
 }
 
 // The chosen data bytes, a part of the lent store; none where nothing is chosen.

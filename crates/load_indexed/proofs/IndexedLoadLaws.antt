@@ -22,12 +22,10 @@ use Rattle.laws.specs.Unless.{unless}
 use Rattle.update_header.specs.Fields.{revision}
 use Rattle.update_coverage.specs.Covers.{pair_count, covers}
 use Rattle.store_blocks.specs.Blocks.{from_block, block_count}
-use Rattle.store_directory.specs.Scan.{slot_at, first, store_ok, directory}
+use Rattle.store_directory.specs.Scan.{slot_at, first, store_ok}
 use Rattle.store_directory.specs.LayoutLaws.{first_parts}
 use Rattle.store_directory.proofs.PairedLaws.{slot_pairs}
-use Rattle.store_directory.proofs.StoreLaws.{directory_ok}
 use Rattle.store_directory.proofs.ValidLaws.{store_valid}
-use Rattle.store_directory.specs.declared.Directory.{Directory}
 use Rattle.store_index.specs.Index.{line_of, index_of}
 use Rattle.store_index.specs.SameIndex.{same_index}
 use Rattle.store_index.specs.SameIndexLaws.{same_self}
@@ -137,26 +135,26 @@ module _ (s : List ℕ) (x : Index) (signature platform b n : ℕ) (all : n ≡ 
       let q : b ≡ length s / 2048 = omega arith in
       rw (first_none (length s / 2048) (holds_in s x signature platform) (rw q at none), le-ltb (length s / 2048) (length s / 2048) (omega arith))
 
--- the order: d is the directory that was read, t whether x is the store's own index, z the answer
-module _ (loading : Bool) (s : List ℕ) (x : Index) (signature platform : ℕ) (d : Directory) (e : d ≡ directory s) where
-  pub indexed_bad : d.ok ≡ false → Err BadStore ≡ indexed_choice loading s x signature platform
+-- the order: t tells whether x is the store's own index, z is the answer
+module _ (loading : Bool) (s : List ℕ) (x : Index) (signature platform : ℕ) where
+  pub indexed_bad : store_ok s ≡ false → Err BadStore ≡ indexed_choice loading s x signature platform
   unfolding indexed_choice unless
-  indexed_bad h = rw (← directory_ok s d e, h)
+  indexed_bad h = rw h
 
-  module _ (ok : d.ok ≡ true) (t : Bool) (g : t ≡ same_index x (index_of s)) where
+  module _ (ok : store_ok s ≡ true) (t : Bool) (g : t ≡ same_index x (index_of s)) where
     pub indexed_foreign : t ≡ false → Err BadStore ≡ indexed_choice loading s x signature platform
     unfolding indexed_choice unless
-    indexed_foreign h = rw (← directory_ok s d e, ok, ← g, h)
+    indexed_foreign h = rw (ok, ← g, h)
 
     module _ (h : t ≡ true) where
       pub indexed_platform : 7 < platform → Err BadProcessors ≡ indexed_choice loading s x signature platform
       unfolding indexed_choice unless
-      indexed_platform l = rw (← directory_ok s d e, ok, ← g, h, lt-leb platform 7 l)
+      indexed_platform l = rw (ok, ← g, h, lt-leb platform 7 l)
 
       pub indexed_off : platform ≤ 7 → loading ≡ false → Nothing ≡ indexed_choice loading s x signature platform
       unfolding indexed_choice unless
-      indexed_off l k = rw (← directory_ok s d e, ok, ← g, h, le-leb platform 7 l, k)
+      indexed_off l k = rw (ok, ← g, h, le-leb platform 7 l, k)
 
       pub indexed_on : (z : LoadChoice) → platform ≤ 7 → loading ≡ true → z ≡ found_in s x signature platform → z ≡ indexed_choice loading s x signature platform
       unfolding indexed_choice unless
-      indexed_on z l k q = rw (← directory_ok s d e, ok, ← g, h, le-leb platform 7 l, k) q
+      indexed_on z l k q = rw (ok, ← g, h, le-leb platform 7 l, k) q

@@ -44,7 +44,7 @@ fn find_in(
 }
 
 // The choice for a processor. The store is read once; then its own index, which is lent, decides.
-#[tactic(auto, using(crate::proofs::IndexedLoadLaws::indexed_platform))]
+#[tactic(auto, using(crate::proofs::IndexedLoadLaws::indexed_platform, store_directory::proofs::StoreLaws::stored_good))]
 pub fn choose_by(
     loading: bool,
     store: &[u8],
@@ -54,11 +54,8 @@ pub fn choose_by(
 ) -> LoadChoice
     ensures { result ≡ indexed_choice loading store.now (index_in columns.now) signature platform }
 {
-    let d = store_directory::read_store(store);
-    if !d.ok {
-        return Err(Refusal::BadStore);
-    }
-    if !own::is_own(store, d.count, &d.starts, &d.sizes, columns) {
+    let d = store_directory::read_store(store).ok_or(Refusal::BadStore)?;
+    if !own::is_own(store, &d, columns) {
         return Err(Refusal::BadStore);
     }
     if platform > 7 {

@@ -2,6 +2,7 @@
 --   lines_none, lines_more      a loop's start and its turn
 --   lines_valid                 a store that has an update is valid
 --   lines_inside                an update ends at block 32 or before
+--   no_lines                    a bad store has none
 --   lines_done                  all lines stand: it is the store's index
 use Rattle.std.specs.Prelude.{ℕ, ◌+◌, ◌<◌, ◌≤◌, ◌≡◌, refl, Bool, true, false, List, length, get_or, replicate}
 use Rattle.std.proofs.Common.{sym, ap, subst, ◌∙◌, true≢false, eq-or-lt_of_le, lt-ltb, le-ltb}
@@ -15,10 +16,9 @@ use Rattle.laws.specs.Tabulate.{tabulate}
 use Rattle.laws.specs.Unless.{unless}
 use Rattle.update_header.specs.Fields.{revision}
 use Rattle.store_blocks.specs.Blocks.{from_block, block_count}
-use Rattle.store_directory.specs.Scan.{first, bad_store, store_ok, directory}
+use Rattle.store_directory.specs.Scan.{first, no_updates, store_ok, directory}
 use Rattle.store_directory.specs.Valid.{Owned}
 use Rattle.store_directory.specs.DirectoryEntries.{start_of, size_of}
-use Rattle.store_directory.proofs.StoreLaws.{directory_ok, directory_good}
 use Rattle.store_directory.specs.DirectoryLaws.{Listing}
 use Rattle.store_directory.proofs.DirectoryLaws.{listing}
 use Rattle.store_directory.proofs.ValidLaws.{store_valid}
@@ -41,9 +41,9 @@ lines_none s d =
     }
 
 -- a bad store has no entries
-pub lines_valid : (s : List ℕ) (d : Directory) → d ≡ directory s → (i : ℕ) → i < d.count → d.ok ≡ true
-unfolding directory bad_store
-lines_valid s d e i l = directory_ok s d e ∙ go (store_ok s) refl
+pub lines_valid : (s : List ℕ) (d : Directory) → d ≡ directory s → (i : ℕ) → i < d.count → store_ok s ≡ true
+unfolding directory no_updates
+lines_valid s d e i l = go (store_ok s) refl
   where
     go : (t : Bool) → store_ok s ≡ t → store_ok s ≡ true
     go true q = q
@@ -52,14 +52,11 @@ lines_valid s d e i l = directory_ok s d e ∙ go (store_ok s) refl
         absurd (let v : ⊥ = omega (arith, none) in v)
 
 -- a bad store has none
-none_counted : (s : List ℕ) (d : Directory) → d ≡ directory s → d.ok ≡ false → d.count ≡ 0
+none_counted : (s : List ℕ) (d : Directory) → d ≡ directory s → store_ok s ≡ false → d.count ≡ 0
 none_counted s d e h =
     ⊎_elim (λ (l : d.count ≤ 0). omega arith) (λ (l : 0 < d.count). absurd (true≢false (sym (lines_valid s d e 0 l) ∙ h))) (le_or_lt d.count 0)
 
-module _ (s : List ℕ) (d : Directory) (e : d ≡ directory s) (ok : d.ok ≡ true) where
-  good : store_ok s ≡ true
-  good = directory_good s d e ok
-
+module _ (s : List ℕ) (d : Directory) (e : d ≡ directory s) (good : store_ok s ≡ true) where
   entries : Listing s d
   entries = listing s good d e
 
@@ -118,17 +115,17 @@ module _ (s : List ℕ) (d : Directory) (e : d ≡ directory s) (ok : d.ok ≡ t
 
 -- all entries, of a valid store or a bad one
 module _ (s : List ℕ) (d : Directory) (e : d ≡ directory s) where
-  no_lines : (cs : List (List ℕ)) → d.ok ≡ false → LinesTo s d 0 cs → cs ≡ columns_of (index_of s)
+  pub no_lines : (cs : List (List ℕ)) → store_ok s ≡ false → LinesTo s d 0 cs → cs ≡ columns_of (index_of s)
   unfolding index_of all_unused index_by unless tabulate
   no_lines cs h to =
       columns_are (λ b. unused_line) cs to.long (λ c l. to.rest c (λ j m. absurd (let v : ⊥ = omega arith in v)))
-      ∙ rw (← directory_ok s d e, h)
+      ∙ rw h
 
   pub lines_done : (i : ℕ) (cs : List (List ℕ)) → LinesTo s d i cs → i ≤ d.count → d.count ≤ i → cs ≡ columns_of (index_of s)
   lines_done i cs to l m =
       let q : i ≡ d.count = omega arith in
-      go d.ok refl (rw q at to)
+      go (store_ok s) refl (rw q at to)
     where
-      go : (t : Bool) → d.ok ≡ t → LinesTo s d d.count cs → cs ≡ columns_of (index_of s)
+      go : (t : Bool) → store_ok s ≡ t → LinesTo s d d.count cs → cs ≡ columns_of (index_of s)
       go true h k = all_lines s d e h cs k
       go false h k = no_lines cs h (subst (λ (j : ℕ). LinesTo s d j cs) (none_counted s d e h) k)

@@ -1,9 +1,8 @@
 -- An index that is the same as the store's own.
---   blocks_few    a valid store has at most 32 blocks, so each has a line
 --   own_line      its lines are those of the store
 --   own_first     its kind tells where an update begins
 --   own_revision  there it has the update's revision
-use Rattle.std.specs.Prelude.{ℕ, ◌/◌, ◌<◌, ◌≤◌, ◌≡◌, true, List, length}
+use Rattle.std.specs.Prelude.{ℕ, ◌<◌, ◌≡◌, true, List}
 use Rattle.std.proofs.Math.Path.{sym, ap}
 use Rattle.std.proofs.Common.{◌∙◌, eq-or-lt_of_le, arith, lt-ltb, eq-eqb, ne_eqb}
 use Rattle.std.proofs.Math.Logic.{⊎_elim}
@@ -12,9 +11,7 @@ use Rattle.laws.specs.Bools.{no_true}
 use Rattle.laws.specs.Unless.{unless}
 use Rattle.update_header.specs.Fields.{revision}
 use Rattle.store_blocks.specs.Blocks.{from_block, block_count}
-use Rattle.store_directory.specs.Scan.{first as begins-update, store_ok, directory}
-use Rattle.store_directory.proofs.StoreLaws.{directory_good}
-use Rattle.store_directory.specs.declared.Directory.{Directory}
+use Rattle.store_directory.specs.Scan.{first as begins-update, store_ok}
 use Rattle.store_directory.specs.LayoutLaws.{size_some}
 use Rattle.store_directory.specs.Valid.{Owned}
 use Rattle.store_directory.proofs.ValidLaws.{store_valid}
@@ -24,11 +21,6 @@ use Rattle.store_index.specs.Index.{first, update_line, stored_line, line_at, li
 use Rattle.store_index.specs.SameIndex.{same_index}
 use Rattle.store_index.specs.SameIndexLaws.{same_lines}
 use Rattle.store_index.proofs.LineLaws.{later_block, owned_or_free, owned_line, free_line, line_by}
-
--- the number of blocks, where d is the directory that was read
-pub blocks_few : (s : List ℕ) (d : Directory) → d ≡ directory s → d.ok ≡ true → length s / 2048 ≤ 32
-unfolding block_count
-blocks_few s d e h = (store_valid s (directory_good s d e h)).few
 
 module _ (s : List ℕ) (ok : store_ok s ≡ true) where
   -- a line of the store's index

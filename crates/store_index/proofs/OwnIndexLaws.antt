@@ -4,8 +4,7 @@
 --   own_none, own_more           the lines of the entries passed are the store's own exactly if nothing differs: a loop's start and its turn
 --   blocks_none .. blocks_more   their blocks are the used lines of the store before the next entry
 --   own_done                     the loop's end
---   own_directory                a valid store's directory is that of its entries
-use Rattle.std.specs.Prelude.{ℕ, ◌+◌, ◌<◌, ◌≤◌, ◌≡◌, Bool, List, ◌↔◌, eqb}
+use Rattle.std.specs.Prelude.{ℕ, ◌+◌, ◌<◌, ◌≤◌, ◌≡◌, Bool, List, ◌↔◌, eqb, Some}
 use Rattle.std.proofs.Math.Path.{refl, sym, ap}
 use Rattle.std.proofs.Common.{◌∙◌, true≢false, eq-or-lt_of_le, add-one}
 use Rattle.std.proofs.Math.Bool.{true, false}
@@ -21,10 +20,10 @@ use Rattle.laws.specs.Span.{Spans}
 use Rattle.laws.specs.Unless.{unless}
 use Rattle.update_header.specs.Fields.{revision}
 use Rattle.store_blocks.specs.Blocks.{from_block, block_count}
-use Rattle.store_directory.specs.Scan.{first, size_at, store_ok, directory}
+use Rattle.store_directory.specs.Scan.{first, size_at, store_ok, stored}
 use Rattle.store_directory.specs.Valid.{Owned}
 use Rattle.store_directory.specs.DirectoryEntries.{start_of, size_of}
-use Rattle.store_directory.proofs.StoreLaws.{directory_good}
+use Rattle.store_directory.proofs.StoreLaws.{stored_some}
 use Rattle.store_directory.proofs.ValidLaws.{store_valid}
 use Rattle.store_directory.specs.DirectoryLaws.{Listing}
 use Rattle.store_directory.proofs.DirectoryLaws.{listing}
@@ -34,7 +33,7 @@ use Rattle.store_index.specs.Index.{unused_line, update_line, stored_line, line_
 use Rattle.store_index.specs.SameIndex.{same_index}
 use Rattle.store_index.specs.SameIndexLaws.{same_lines, lines_same}
 use Rattle.store_index.proofs.LineLaws.{owned_or_free, owned_line, free_line, line_by}
-use Rattle.store_index.specs.OwnLines.{valid_directory, used_line, used_in, used_of, UpdateFrom, Gathered, end_to, Behind, EntriesOwn}
+use Rattle.store_index.specs.OwnLines.{used_line, used_in, used_of, UpdateFrom, Gathered, end_to, Behind, EntriesOwn}
 use Rattle.store_index.specs.OwnLineLaws.{used_no, used_unused, used_update}
 
 pub behind_none : (d : Directory) → Behind d 0 (end_to d 0)
@@ -52,12 +51,12 @@ pub own_none : (s : List ℕ) (d : Directory) (x : Index) (differs : ℕ) → di
 unfolding EntriesOwn
 own_none s d x differs z = (λ e j c l h. absurd (let v : ⊥ = omega arith in v), λ h. z)
 
-module _ (s : List ℕ) (d : Directory) (e : d ≡ directory s) (ok : d.ok ≡ true) where
+module _ (s : List ℕ) (d : Directory) (read : stored s ≡ Some d) where
   good : store_ok s ≡ true
-  good = directory_good s d e ok
+  good = (stored_some s d read).1
 
   entries : Listing s d
-  entries = listing s good d e
+  entries = listing s good d (stored_some s d read).0
 
   pub behind_more : (i : ℕ) → i < d.count → Behind d (i + 1) (end_to d (i + 1))
   unfolding end_to
@@ -199,7 +198,3 @@ module _ (s : List ℕ) (d : Directory) (e : d ≡ directory s) (ok : d.ok ≡ t
         let e : differs ≡ 0 = a.1 (λ j c l h. same c (omega (arith, h.upto, entry_inside j (start_of d j) (size_of d j) (omega arith) refl refl))) in
         let u : used ≡ blocks = m ∙ count_cong (used_in x) (used_of s) 32 (λ c l. ap used_line (same c l)) ∙ sym all_blocks in
         eq-eqb (bit_or differs (bit_xor used blocks)) 0 (rw (e, u, xor_self blocks) (or_zero_l 0)))
-
--- d is the directory that was read
-pub own_directory : (s : List ℕ) (d : Directory) → d ≡ directory s → d.ok ≡ true → valid_directory d.count d.starts d.sizes ≡ directory s
-own_directory s d e h = rw (← h) e

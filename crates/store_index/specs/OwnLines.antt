@@ -1,5 +1,4 @@
 -- The lines of an index held against those of a store, as the code does it: those of each update are compared, and the used ones counted.
---   valid_directory    a valid store's directory, by its entries
 --   used_line          some number of the line isn't 0
 --   used_in, used_of   line c of an index is used; line c of a store's own
 --   UpdateFrom         the lines from `start` to below `end` are those of an update
@@ -7,7 +6,7 @@
 --   end_to             where the entry before number i ends
 --   Behind             the entries before number i end at or before `next`, the others begin at or behind it
 --   EntriesOwn         the lines of the entries before number i are the store's own
-use Rattle.std.specs.Prelude.{ℕ, zero, suc, ◌+◌, ◌<◌, ◌≤◌, ◌≡◌, Bool, true, not, List, ◌↔◌, eqb}
+use Rattle.std.specs.Prelude.{ℕ, zero, suc, ◌+◌, ◌<◌, ◌≤◌, ◌≡◌, Bool, not, List, ◌↔◌, eqb}
 use Rattle.std.specs.Int.Bits.{bit_or}
 use Rattle.laws.specs.Span.{Spans}
 use Rattle.store_directory.specs.DirectoryEntries.{start_of, size_of}
@@ -15,9 +14,6 @@ use Rattle.store_directory.specs.declared.Directory.{Directory}
 use Rattle.store_index.specs.declared.Line.{Line}
 use Rattle.store_index.specs.declared.Index.{Index}
 use Rattle.store_index.specs.Index.{update_line, line_in, line_of}
-
-abbrev pub valid_directory : ℕ → List ℕ → List ℕ → Directory
-valid_directory count starts sizes = record { ok = true; count = count; starts = starts; sizes = sizes }
 
 unfoldable pub used_line : Line → Bool
 used_line y = not (eqb (bit_or (bit_or (bit_or y.kind y.start) y.revision) y.size) 0)

@@ -83,12 +83,13 @@ pub fn put_index(store: &[u8], columns: &mut [[u32; MOST_BLOCKS]; COLUMNS]) -> b
     ensures valid { result ≡ store_ok store.now }
     ensures makes { columns.new ≡ columns_of (index_of store.now) }
 {
-    let d = store_directory::read_store(store);
     *columns = [[UNUSED; MOST_BLOCKS]; COLUMNS];
-    let mut i: usize = 0;
-    while i < d.count {
-        let start = bytes_dwords::wide(d.starts[i]);
-        let size = bytes_dwords::wide(d.sizes[i]);
+    let Some(d) = store_directory::read_store(store) else {
+        return false;
+    };
+    for i in 0..d.count {
+        let start = u32::from(d.starts[i]);
+        let size = u32::from(d.sizes[i]);
         let revision = fields::revision(store_blocks::from_block(store, start));
         lines::put_lines(
             columns,
@@ -97,7 +98,6 @@ pub fn put_index(store: &[u8], columns: &mut [[u32; MOST_BLOCKS]; COLUMNS]) -> b
             size,
             start as usize + size as usize,
         );
-        i += 1;
     }
-    d.ok
+    true
 }

@@ -1,16 +1,17 @@
 // Whether an index is the store's own: the lines of each stored update are right, and no more lines are used than these. The differences are
 // gathered, which is quicker than to leave at the first, and the used lines are counted before the directory is looked at, since its bytes
 // have only just been written.
-ghost use Rattle.std.specs.Prelude.{◌≡◌, ◌+◌, ◌≤◌};
+ghost use Rattle.std.specs.Prelude.{◌≡◌, ◌+◌, ◌≤◌, Some};
 ghost use Rattle.laws.specs.Count.{count_below};
-ghost use Rattle.store_directory.specs.Scan.{directory};
+ghost use Rattle.store_directory.specs.Scan.{stored};
 ghost use Rattle.store_index.specs.Index.{index_of};
 ghost use Rattle.store_index.specs.IndexColumns.{index_in};
 ghost use Rattle.store_index.specs.SameIndex.{same_index};
-ghost use Rattle.store_index.specs.OwnLines.{valid_directory, used_in, Gathered, UpdateFrom};
+ghost use Rattle.store_index.specs.OwnLines.{used_in, Gathered, UpdateFrom};
 
 use crate::{COLUMNS, KINDS, REVISIONS, SIZES, STARTS, lines};
 use store_blocks::MOST_BLOCKS;
+use store_directory::Directory;
 use update_header::fields;
 
 // How many lines are used: some number of theirs isn't 0.
@@ -52,23 +53,17 @@ fn update_lines(
     all
 }
 
-// Is the lent index that of the valid store whose directory has these entries? The directory's arrays are lent, since by value they are copied.
-pub fn is_own<'a>(
-    store: &[u8],
-    count: usize,
-    starts: &'a [u8; MOST_BLOCKS],
-    sizes: &'a [u8; MOST_BLOCKS],
-    columns: &[[u32; MOST_BLOCKS]; COLUMNS],
-) -> bool
-    requires { valid_directory count starts.now sizes.now ≡ directory store.now }
+// Is the lent index that of the valid store whose directory `d` is?
+pub fn is_own(store: &[u8], d: &Directory, columns: &[[u32; MOST_BLOCKS]; COLUMNS]) -> bool
+    requires { stored store.now ≡ Some d.now }
     ensures { result ≡ same_index (index_in columns.now) (index_of store.now) }
 {
     let used = used_lines(columns);
     let mut differs: u32 = 0;
     let mut blocks: u32 = 0;
-    for i in 0..count {
-        let start = u32::from(starts[i]);
-        let size = u32::from(sizes[i]);
+    for i in 0..d.count {
+        let start = u32::from(d.starts[i]);
+        let size = u32::from(d.sizes[i]);
         let revision = fields::revision(store_blocks::from_block(store, start));
         differs = update_lines(columns, differs, start, revision, size);
         blocks += size;

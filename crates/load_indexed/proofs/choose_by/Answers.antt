@@ -1,24 +1,23 @@
 -- `load_indexed::choose_by` meets its contract: the order of the answers.
-use Rattle.std.proofs.Common.{sym, ◌∙◌, arith}
-use Rattle.store_directory.proofs.StoreLaws.{directory_good}
-use Rattle.store_index.proofs.OwnIndexLaws.{own_directory}
+use Rattle.std.proofs.Common.{rules, arith, ◌≡◌, None}
+use Rattle.std.proofs.lemmas.Result.{err_from_is_err_and}
+use Rattle.store_directory.proofs.StoreLaws.{stored_bad, stored_good}
+use Rattle.call_answers.specs.declared.refusal.Refusal.TheVariants.{BadStore}
 use Rattle.load_indexed.proofs.IndexedLoadLaws.{indexed_bad, indexed_foreign, indexed_off, indexed_on}
 use Rattle.load_indexed.proofs.choose_by.Goals as goal
 
-pub is_own-requires : goal.is_own-requires
-is_own-requires c = own_directory _ _ c.read_store-d.ensures c.if-not-d.false
-
-pub find_in-requires : goal.find_in-requires
-find_in-requires c = (directory_good _ _ c.read_store-d.ensures c.if-not-d.false, sym c.is_own.ensures ∙ c.if-not-is_own.false)
-
-pub returns-then-not-d : goal.returns-then-not-d
-returns-then-not-d c = indexed_bad _ _ _ _ _ _ c.read_store-d.ensures c.if-not-d.true
+pub returns-in_err-d : goal.returns-in_err-d
+returns-in_err-d c =
+    let p = err_from_is_err_and c.from_residual.result c.from_residual.ensures.1 in
+    let none : c.read_store.result ≡ None = grind arith in
+    let e : c.in_err-d.field-0.0 ≡ BadStore = grind arith in
+    rw (p.1, p.2, e) (indexed_bad _ _ _ _ _ (stored_bad _ _ c.read_store.ensures none))
 
 pub returns-then-not-is_own : goal.returns-then-not-is_own
-returns-then-not-is_own c = indexed_foreign _ _ _ _ _ _ c.read_store-d.ensures c.if-not-d.false _ c.is_own.ensures c.if-not-is_own.true
+returns-then-not-is_own c = search (rules, indexed_foreign, stored_good)
 
 pub returns-then-not-loading : goal.returns-then-not-loading
-returns-then-not-loading c = indexed_off _ _ _ _ _ _ c.read_store-d.ensures c.if-not-d.false _ c.is_own.ensures c.if-not-is_own.false (omega arith) c.if-not-loading.true
+returns-then-not-loading c = search (rules, indexed_off, stored_good)
 
 pub returns : goal.returns
-returns c = indexed_on _ _ _ _ _ _ c.read_store-d.ensures c.if-not-d.false _ c.is_own.ensures c.if-not-is_own.false _ (omega arith) c.if-not-loading.false c.find_in.ensures
+returns c = search (rules, indexed_on, stored_good)

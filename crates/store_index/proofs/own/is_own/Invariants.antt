@@ -4,11 +4,10 @@ use Rattle.std.proofs.Common.{◌≡◌, ◌≤◌}
 use Rattle.std.specs.Prelude.{◌↔◌}
 use Rattle.laws.specs.Count.{count_below}
 use Rattle.store_index.specs.IndexColumns.{index_in}
-use Rattle.store_index.specs.OwnLines.{valid_directory, used_of, end_to, Behind, EntriesOwn}
+use Rattle.store_index.specs.OwnLines.{used_of, end_to, Behind, EntriesOwn}
 use Rattle.store_index.proofs.own.is_own.Given as goal
 
 abbrev pub invariant-loop-i : goal.invariant-loop-i
 invariant-loop-i l =
-    let d = valid_directory l.count l.starts l.sizes in
-    ((l.differs ≡ 0) ↔ EntriesOwn l.store d (index_in l.columns) l.i)
-    × (l.blocks ≡ count_below (end_to d l.i) (used_of l.store)) × Behind d l.i (end_to d l.i) × (end_to d l.i ≤ 32)
+    ((l.differs ≡ 0) ↔ EntriesOwn l.store l.d (index_in l.columns) l.i)
+    × (l.blocks ≡ count_below (end_to l.d l.i) (used_of l.store)) × Behind l.d l.i (end_to l.d l.i) × (end_to l.d l.i ≤ 32) × (l.d.count ≤ 32)
