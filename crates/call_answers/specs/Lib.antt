@@ -4,3 +4,4 @@ pub mod Answers
 pub mod Refusals
 pub mod Choice
 pub mod AnswerLaws
+pub mod RefusalLaws

@@ -61,6 +61,7 @@ pub struct Refused {
     pub carry: bool,
 }
 
+// An enum of its own with the codes in each case, and no Result: demand 1 is said of it, and C gets its codes and numbers.
 #[derive(Clone, Copy)]
 pub enum Answer {
     Presence(Presence),

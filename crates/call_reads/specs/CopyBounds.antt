@@ -1,10 +1,9 @@
 -- What a plan to copy blocks may rely on.
 --   Copies       k blocks from block b on fit into m bytes, are there, and are at most 16
 --   Copyable     so it is with the blocks of a plan
-use Rattle.std.specs.Prelude.{ℕ, ◌*◌, ◌≤◌, ◌≡◌, List, length}
+use Rattle.std.specs.Prelude.{ℕ, ◌*◌, ◌≤◌, ◌≡◌, Ok, List, length}
 use Rattle.store_blocks.specs.Blocks.{from_block}
-use Rattle.call_reads.specs.declared.read.ReadPlan.{ReadPlan}
-use Rattle.call_reads.specs.declared.read.ReadPlan.TheVariants.{Copy}
+use Rattle.call_reads.specs.Read.{ReadPlan}
 
 pub record Copies (s : List ℕ) (b m k : ℕ) : Type 0 where
   pub fit : k * 2048 ≤ m
@@ -12,4 +11,4 @@ pub record Copies (s : List ℕ) (b m k : ℕ) : Type 0 where
   pub few : k ≤ 16
 
 unfoldable pub Copyable : List ℕ → ℕ → ℕ → ReadPlan → Type 0
-Copyable s b m p = (k : ℕ) → p ≡ Copy k → Copies s b m k
+Copyable s b m p = (k : ℕ) → p ≡ Ok k → Copies s b m k

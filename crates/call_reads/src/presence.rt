@@ -3,15 +3,14 @@ ghost use Rattle.std.specs.Prelude.{◌≡◌};
 ghost use Rattle.call_reads.specs.Presence.{presence_answer};
 
 use call_answers::answer::{Answer, Presence};
-use call_answers::{answer, code};
+use call_answers::code;
+use call_answers::refusal::Refusal;
 
 pub fn presence(store: &[u8]) -> Answer
     ensures { result ≡ presence_answer store.now }
 {
-    let d = store_directory::read_store(store);
-    let ok = d.ok;
-    if ok {
-        Answer::Presence(Presence {
+    match store_directory::read_store(store) {
+        Some(_) => Answer::Presence(Presence {
             ah: code::SUCCESS,
             al: code::NONE,
             carry: false,
@@ -25,8 +24,7 @@ pub fn presence(store: &[u8]) -> Answer
             byte7: b'P',
             loader_version: 1,
             blocks: (store.len() / store_blocks::BLOCK) as u32,
-        })
-    } else {
-        answer::refuse(code::READ_FAILURE, code::BAD_STORE)
+        }),
+        None => Answer::from(Refusal::BadStore),
     }
 }

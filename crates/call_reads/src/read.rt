@@ -4,44 +4,35 @@ ghost use Rattle.call_reads.specs.Read.{read_blocks, read_kind, read_plan, answe
 ghost use Rattle.call_reads.specs.CopyBounds.{Copyable};
 
 use call_answers::answer::{Answer, Read};
-use call_answers::{answer, code};
+use call_answers::code;
+use call_answers::refusal::Refusal;
 use store_blocks::BLOCK;
 use store_directory::kind;
 use store_directory::kind::Kind;
 
-// What the checks of a read find.
-#[derive(Clone, Copy)]
-pub enum ReadPlan {
-    // so many blocks are to be copied
-    Copy { blocks: u32 },
-    // the codes of the check that refuses
-    Refuse { ah: u8, al: u8 },
-}
+// So many blocks are to be copied, or why the read is refused.
+pub type ReadPlan = Result<u32, Refusal>;
 
 // `k` blocks are to be copied into `lent` bytes.
+#[tactic(auto, unfolding(crate::specs::Read::read_blocks, laws::specs::Unless::unless))]
 pub fn read_blocks(k: u32, lent: usize) -> ReadPlan
     ensures { result ≡ read_blocks k lent }
 {
     if lent < k as usize * BLOCK {
-        ReadPlan::Refuse {
-            ah: code::READ_FAILURE,
-            al: code::SHORT_DESTINATION,
-        }
+        Err(Refusal::ShortDestination)
     } else {
-        ReadPlan::Copy { blocks: k }
+        Ok(k)
     }
 }
 
+#[tactic(auto, unfolding(crate::specs::Read::read_kind))]
 fn read_kind(kind: Kind, lent: usize) -> ReadPlan
     ensures { result ≡ read_kind kind lent }
 {
     match kind {
         Kind::Unused => read_blocks(1, lent),
         Kind::First { blocks } => read_blocks(blocks, lent),
-        Kind::Later => ReadPlan::Refuse {
-            ah: code::NOT_EMPTY,
-            al: code::NONE,
-        },
+        Kind::Later => Err(Refusal::NotEmpty),
     }
 }
 
@@ -49,33 +40,22 @@ fn read_kind(kind: Kind, lent: usize) -> ReadPlan
 fn read_plan(store: &[u8], block: u32, lent: usize) -> ReadPlan
     ensures { result ≡ read_plan store.now block lent }
 {
-    let d = store_directory::read_store(store);
-    let ok = d.ok;
-    if ok {
-        if (block as usize) < store.len() / BLOCK {
-            read_kind(kind::block_kind(d, block), lent)
-        } else {
-            ReadPlan::Refuse {
-                ah: code::UPDATE_NUM_INVALID,
-                al: code::NONE,
-            }
-        }
-    } else {
-        ReadPlan::Refuse {
-            ah: code::READ_FAILURE,
-            al: code::BAD_STORE,
-        }
+    let d = store_directory::read_store(store).ok_or(Refusal::BadStore)?;
+    if block as usize >= store.len() / BLOCK {
+        return Err(Refusal::InvalidBlock);
     }
+    read_kind(kind::block_kind(d, block), lent)
 }
 
 // Carries a plan out: copies the blocks, or refuses. The bytes behind the blocks stay.
+#[tactic(auto, using(crate::proofs::ReadLaws::copying), unfolding(crate::specs::Read::answered))]
 pub fn copy_planned(store: &[u8], block: u32, destination: &mut [u8], plan: ReadPlan) -> Answer
     requires { Copyable store.now block (length destination.old) plan }
     ensures answers { result ≡ answered plan }
     ensures copies { destination.new ≡ copied store.now block destination.old plan }
 {
     match plan {
-        ReadPlan::Copy { blocks } => {
+        Ok(blocks) => {
             let from = store_blocks::from_block(store, block);
             bytes_copy::put(destination, 0, from, blocks as usize * BLOCK);
             Answer::Read(Read {
@@ -85,7 +65,7 @@ pub fn copy_planned(store: &[u8], block: u32, destination: &mut [u8], plan: Read
                 blocks,
             })
         }
-        ReadPlan::Refuse { ah, al } => answer::refuse(ah, al),
+        Err(r) => Answer::from(r),
     }
 }
 
