@@ -2,7 +2,8 @@
 --   Called                            the reply, the store and the destination afterwards are those of the definitions
 --   other_function .. other_sub       so they are: an unknown function, the four sub-functions, an unknown sub-function
 --   above_sub                         a sub-function above 3
-use Rattle.std.specs.Prelude.{ℕ, ◌<◌, ◌≡◌, List, length}
+--   at_presence .. at_unknown         the number of a sub-function that was read from it
+use Rattle.std.specs.Prelude.{ℕ, ◌<◌, ◌≡◌, Ok, Err, List, length}
 use Rattle.std.proofs.Math.Path.{refl}
 use Rattle.std.proofs.Common.{arith}
 use borrow.Author.Tests.{eq-eqb, ne_eqb}
@@ -13,6 +14,9 @@ use Rattle.call_reads.specs.Read.{read_answer, read_bytes}
 use Rattle.call_answers.specs.declared.answer.Answer.{Answer}
 use Rattle.call_answers.specs.declared.answer.Reply.{Reply}
 use Rattle.write_call.specs.Write.{write_answer, write_bytes}
+use Rattle.call_answers.specs.declared.refusal.Refusal.{Refusal}
+use Rattle.call_dispatch.specs.declared.SubFunction.TheVariants.{Presence, Write, Control, Read}
+use Rattle.call_dispatch.specs.SubFunctions.{sub_function_of}
 use Rattle.call_dispatch.specs.Call.{CallInputs, replied, unknown, call_reply, call_store, call_destination}
 
 module _ (i : CallInputs) where
@@ -50,3 +54,20 @@ module _ (i : CallInputs) where
 
     pub above_sub : (r : Reply) → 3 < i.sub → r ≡ unknown i.loading → Called r i.store i.destination
     above_sub r l e = other_sub r (λ h. omega (arith, h)) (λ h. omega (arith, h)) (λ h. omega (arith, h)) (λ h. omega (arith, h)) e
+
+-- n is the number
+module _ (n : ℕ) where
+  pub at_presence : Ok Presence ≡ sub_function_of n → n ≡ 0
+  at_presence e = grind arith
+
+  pub at_write : Ok Write ≡ sub_function_of n → n ≡ 1
+  at_write e = grind arith
+
+  pub at_control : Ok Control ≡ sub_function_of n → n ≡ 2
+  at_control e = grind arith
+
+  pub at_read : Ok Read ≡ sub_function_of n → n ≡ 3
+  at_read e = grind arith
+
+  pub at_unknown : (r : Refusal) → Err r ≡ sub_function_of n → 3 < n
+  at_unknown r e = grind arith

@@ -4,28 +4,46 @@
 ghost use Rattle.std.specs.Prelude.{◌≡◌};
 ghost use Rattle.call_dispatch.specs.Call.{inputs_of, unknown, call_reply, call_store, call_destination};
 ghost use Rattle.call_dispatch.specs.Demand1.{Demand1};
+ghost use Rattle.call_dispatch.specs.SubFunctions.{sub_function_of};
 
-use call_answers::answer::Reply;
-use call_answers::{answer, code};
+use call_answers::answer::{Answer, Reply};
+use call_answers::refusal::Refusal;
 use call_reads::{presence, read};
 
-// The function of the update calls, and its sub-functions.
+// The function of the update calls.
 pub const FUNCTION: u32 = 0xD042;
 
-pub const PRESENCE: u32 = 0;
+#[derive(Clone, Copy)]
+pub enum SubFunction {
+    Presence,
+    Write,
+    Control,
+    Read,
+}
 
-pub const WRITE: u32 = 1;
+impl TryFrom<u32> for SubFunction {
+    type Error = Refusal;
 
-pub const CONTROL: u32 = 2;
+    ghost try_from_gives = { λ n r. r ≡ sub_function_of n };
 
-pub const READ: u32 = 3;
+    fn try_from(number: u32) -> Result<Self, Refusal> {
+        match number {
+            0 => Ok(SubFunction::Presence),
+            1 => Ok(SubFunction::Write),
+            2 => Ok(SubFunction::Control),
+            3 => Ok(SubFunction::Read),
+            _ => Err(Refusal::NotImplemented),
+        }
+    }
+}
 
 // An unknown function or sub-function does nothing else.
+#[tactic(auto, unfolding(crate::specs::Call::unknown))]
 fn not_implemented(loading: bool) -> Reply
     ensures { result ≡ unknown loading }
 {
     Reply {
-        answer: answer::refuse(code::NOT_IMPLEMENTED, code::NONE),
+        answer: Answer::from(Refusal::NotImplemented),
         loading,
     }
 }
@@ -59,26 +77,20 @@ pub fn call(
     if function != FUNCTION {
         return not_implemented(loading);
     }
-    if sub == PRESENCE {
-        return Reply {
+    match SubFunction::try_from(sub) {
+        Ok(SubFunction::Presence) => Reply {
             answer: presence::presence(store),
             loading,
-        };
-    }
-    if sub == WRITE {
-        return Reply {
+        },
+        Ok(SubFunction::Write) => Reply {
             answer: write_call::write(store, signatures, platforms, candidate, back),
             loading,
-        };
-    }
-    if sub == CONTROL {
-        return call_control::control(task, loading);
-    }
-    if sub == READ {
-        return Reply {
+        },
+        Ok(SubFunction::Control) => call_control::control(task, loading),
+        Ok(SubFunction::Read) => Reply {
             answer: read::read(store, block, destination),
             loading,
-        };
+        },
+        Err(_) => not_implemented(loading),
     }
-    not_implemented(loading)
 }
