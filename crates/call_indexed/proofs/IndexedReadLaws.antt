@@ -5,7 +5,7 @@
 --   foreign_plan       another index is refused
 --   indexed_bad .. indexed_line    the order of the codes
 --   indexed_copyable   what the plan may rely on
-use Rattle.std.specs.Prelude.{ℕ, ◌/◌, ◌<◌, ◌≤◌, ◌≡◌, Bool, List, length}
+use Rattle.std.specs.Prelude.{ℕ, ◌/◌, ◌<◌, ◌≤◌, ◌≡◌, Bool, Err, List, length}
 use Rattle.std.proofs.Math.Path.{refl, ap}
 use Rattle.std.proofs.Common.{sym, ◌∙◌, eq-or-lt_of_le, arith}
 use Rattle.std.proofs.Math.Bool.{true, false}
@@ -18,9 +18,7 @@ use Rattle.store_blocks.specs.Blocks.{block_count}
 use Rattle.store_directory.specs.Scan.{first, size_at, store_ok, directory}
 use Rattle.store_directory.specs.Kind.{kind_at, kind_if}
 use Rattle.store_directory.specs.Valid.{Owned}
-use Rattle.store_directory.proofs.StoreLaws.{directory_ok}
 use Rattle.store_directory.proofs.DirectoryLaws.{kind_owned, kind_free}
-use Rattle.store_directory.specs.declared.Directory.{Directory}
 use Rattle.store_directory.specs.declared.kind.Kind.{Kind}
 use Rattle.store_index.specs.Index.{update_line, stored_line, line_at, line_of, index_of}
 use Rattle.store_index.specs.SameIndex.{same_index}
@@ -29,12 +27,10 @@ use Rattle.store_index.proofs.OwnIndex.{own_line}
 use Rattle.store_index.proofs.LineLaws.{owned_or_free, owned_line, free_line}
 use Rattle.store_index.specs.declared.Line.{Line}
 use Rattle.store_index.specs.declared.Index.{Index}
-use Rattle.call_answers.specs.Codes.{read_failure, update_num_invalid, none, bad_store}
-use Rattle.call_reads.specs.Read.{read_kind, read_plan, answered, copied, read_answer, read_bytes}
+use Rattle.call_answers.specs.declared.refusal.Refusal.TheVariants.{BadStore, InvalidBlock}
+use Rattle.call_reads.specs.Read.{ReadPlan, read_kind, read_plan, answered, copied, read_answer, read_bytes}
 use Rattle.call_reads.specs.CopyBounds.{Copyable}
 use Rattle.call_reads.proofs.ReadLaws.{copyable}
-use Rattle.call_reads.specs.declared.read.ReadPlan.{ReadPlan}
-use Rattle.call_reads.specs.declared.read.ReadPlan.TheVariants.{Refuse}
 use Rattle.call_indexed.specs.IndexedRead.{line_plan, indexed_plan, indexed_answer, indexed_bytes}
 
 module _ (s : List ℕ) (ok : store_ok s ≡ true) (b m : ℕ) (l : b < block_count s) where
@@ -70,13 +66,13 @@ module _ (s : List ℕ) (x : Index) (h : same_index x (index_of s) ≡ true) (b 
   plan_own m = rw h (go (store_ok s) refl)
     where
       below : store_ok s ≡ true → (t : Bool) → ltb b (block_count s) ≡ t
-          → unless t (Refuse update_num_invalid none) (line_plan (line_of x b).kind (line_of x b).size m) ≡ unless t (Refuse update_num_invalid none) (read_kind (kind_at s b) m)
+          → unless t (Err InvalidBlock) (line_plan (line_of x b).kind (line_of x b).size m) ≡ unless t (Err InvalidBlock) (read_kind (kind_at s b) m)
       below ok true e = own_plan s ok b m (ltb-true b (block_count s) e) x h
       below ok false e = refl
 
       go : (t : Bool) → store_ok s ≡ t
-          → unless t (Refuse read_failure bad_store) (unless (ltb b (block_count s)) (Refuse update_num_invalid none) (line_plan (line_of x b).kind (line_of x b).size m))
-          ≡ unless t (Refuse read_failure bad_store) (unless (ltb b (block_count s)) (Refuse update_num_invalid none) (read_kind (kind_at s b) m))
+          → unless t (Err BadStore) (unless (ltb b (block_count s)) (Err InvalidBlock) (line_plan (line_of x b).kind (line_of x b).size m))
+          ≡ unless t (Err BadStore) (unless (ltb b (block_count s)) (Err InvalidBlock) (read_kind (kind_at s b) m))
       go true e = below e (ltb b (block_count s)) refl
       go false e = refl
 
@@ -90,32 +86,32 @@ module _ (s : List ℕ) (b : ℕ) where
   unfolding indexed_bytes read_bytes
   read_own_bytes d = ap (copied s b d) (plan_own s (index_of s) (same_self (index_of s)) b (length d))
 
--- the order of the codes: d is the directory that was read, t whether x is the store's own index
-module _ (s : List ℕ) (x : Index) (b m : ℕ) (d : Directory) (e : d ≡ directory s) where
-  pub indexed_bad : d.ok ≡ false → Refuse read_failure bad_store ≡ indexed_plan s x b m
+-- the order of the codes; t is whether x is the store's own index
+module _ (s : List ℕ) (x : Index) (b m : ℕ) where
+  pub indexed_bad : store_ok s ≡ false → Err BadStore ≡ indexed_plan s x b m
   unfolding indexed_plan unless
-  indexed_bad h = rw (← directory_ok s d e, h)
+  indexed_bad h = rw h
 
-  module _ (ok : d.ok ≡ true) (t : Bool) (g : t ≡ same_index x (index_of s)) where
-    pub indexed_foreign : t ≡ false → Refuse read_failure bad_store ≡ indexed_plan s x b m
+  module _ (ok : store_ok s ≡ true) (t : Bool) (g : t ≡ same_index x (index_of s)) where
+    pub indexed_foreign : t ≡ false → Err BadStore ≡ indexed_plan s x b m
     unfolding indexed_plan unless
-    indexed_foreign h = rw (← directory_ok s d e, ok, ← g, h)
+    indexed_foreign h = rw (ok, ← g, h)
 
     module _ (h : t ≡ true) where
-      pub indexed_number : length s / 2048 ≤ b → Refuse update_num_invalid none ≡ indexed_plan s x b m
+      pub indexed_number : length s / 2048 ≤ b → Err InvalidBlock ≡ indexed_plan s x b m
       unfolding indexed_plan unless block_count
-      indexed_number l = rw (← directory_ok s d e, ok, ← g, h, le-ltb b (length s / 2048) l)
+      indexed_number l = rw (ok, ← g, h, le-ltb b (length s / 2048) l)
 
       pub indexed_line : (z : ReadPlan) → b < length s / 2048 → z ≡ line_plan (line_of x b).kind (line_of x b).size m → z ≡ indexed_plan s x b m
       unfolding indexed_plan unless block_count
-      indexed_line z l q = q ∙ rw (← directory_ok s d e, ok, ← g, h, lt-ltb b (length s / 2048) l)
+      indexed_line z l q = q ∙ rw (ok, ← g, h, lt-ltb b (length s / 2048) l)
 
 -- another index is refused
-pub foreign_plan : (s : List ℕ) (x : Index) (b m : ℕ) → same_index x (index_of s) ≡ false → indexed_plan s x b m ≡ Refuse read_failure bad_store
+pub foreign_plan : (s : List ℕ) (x : Index) (b m : ℕ) → same_index x (index_of s) ≡ false → indexed_plan s x b m ≡ Err BadStore
 unfolding indexed_plan unless
 foreign_plan s x b m h = rw h (go (store_ok s))
   where
-    go : (t : Bool) → unless t (Refuse read_failure bad_store) (Refuse read_failure bad_store) ≡ Refuse read_failure bad_store
+    go : (t : Bool) → unless {A = ReadPlan} t (Err BadStore) (Err BadStore) ≡ Err BadStore
     go true = refl
     go false = refl
 

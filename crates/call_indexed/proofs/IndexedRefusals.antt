@@ -2,30 +2,22 @@
 --   indexed_plan_coded, indexed_coded     the plan refuses with a code; the answer's codes are right
 --   indexed_refused     a refused read changes no byte of the destination
 --   indexed_long        the destination keeps its length
-use Rattle.std.specs.Prelude.{ℕ, ◌≡◌, Bool, List, length}
-use Rattle.std.proofs.Math.Path.{refl, ap}
-use Rattle.std.proofs.Common.{◌∙◌}
-use Rattle.std.proofs.Math.Bool.{true, false}
-use Rattle.store_index.specs.Index.{index_of}
-use Rattle.store_index.specs.SameIndex.{same_index}
+use Rattle.std.specs.Prelude.{ℕ, ◌≡◌, List, length}
+use Rattle.std.proofs.Math.Path.{refl}
+use Rattle.std.proofs.Math.Bool.{true}
 use Rattle.store_index.specs.declared.Index.{Index}
 use Rattle.call_answers.specs.Answers.{Coded}
 use Rattle.call_answers.specs.declared.answer.Refused.{Refused as RefusedNumbers}
 use Rattle.call_answers.specs.declared.answer.Answer.TheVariants.{Refused}
 use Rattle.call_reads.proofs.ReadLaws.{copied_long}
 use Rattle.call_reads.specs.ReadRefusals.{coded}
-use Rattle.call_reads.proofs.ReadRefusals.{plan_coded, answered_coded, answered_refused}
+use Rattle.call_reads.proofs.ReadRefusals.{coded_all, answered_coded, answered_refused}
 use Rattle.call_indexed.specs.IndexedRead.{indexed_plan, indexed_answer, indexed_bytes}
-use Rattle.call_indexed.proofs.IndexedReadLaws.{plan_own, foreign_plan, indexed_copyable}
+use Rattle.call_indexed.proofs.IndexedReadLaws.{indexed_copyable}
 
 module _ (s : List ℕ) (x : Index) (b : ℕ) where
   pub indexed_plan_coded : (m : ℕ) → coded (indexed_plan s x b m) ≡ true
-  unfolding coded
-  indexed_plan_coded m = go (same_index x (index_of s)) refl
-    where
-      go : (t : Bool) → same_index x (index_of s) ≡ t → coded (indexed_plan s x b m) ≡ true
-      go true h = ap coded (plan_own s x h b m) ∙ plan_coded s b m
-      go false h = ap coded (foreign_plan s x b m h)
+  indexed_plan_coded m = coded_all (indexed_plan s x b m)
 
   pub indexed_coded : (m : ℕ) → Coded (indexed_answer s x b m)
   unfolding indexed_answer

@@ -1,31 +1,29 @@
 -- A read through an index (document 02, One): bad store; right after that check an index that isn't the store's own (92, AL 1); then as a read
 -- without it, by the index.
 --   line_plan           by the line of the block: an unused one is copied by itself, the first of an update with all its blocks
---   indexed_plan        the whole order: the blocks to copy, or the codes of the check that refuses
+--   indexed_plan        the whole order: the blocks to copy, or the refusal of the check that fails
 --   indexed_answer      the answer
 --   indexed_bytes       the destination afterwards
-use Rattle.std.specs.Prelude.{ℕ, List, length, eqb, ltb}
+use Rattle.std.specs.Prelude.{ℕ, Err, List, length, eqb, ltb}
 use Rattle.laws.specs.Unless.{unless}
 use Rattle.store_blocks.specs.Blocks.{block_count}
 use Rattle.store_directory.specs.Scan.{store_ok}
 use Rattle.store_index.specs.Index.{unused, first, line_of, index_of}
 use Rattle.store_index.specs.SameIndex.{same_index}
 use Rattle.store_index.specs.declared.Index.{Index}
-use Rattle.call_answers.specs.Codes.{read_failure, update_num_invalid, not_empty, none, bad_store}
+use Rattle.call_answers.specs.declared.refusal.Refusal.TheVariants.{BadStore, InvalidBlock, NotEmpty}
 use Rattle.call_answers.specs.declared.answer.Answer.{Answer}
-use Rattle.call_reads.specs.Read.{read_blocks, answered, copied}
-use Rattle.call_reads.specs.declared.read.ReadPlan.{ReadPlan}
-use Rattle.call_reads.specs.declared.read.ReadPlan.TheVariants.{Refuse}
+use Rattle.call_reads.specs.Read.{ReadPlan, read_blocks, answered, copied}
 
 -- of a line's kind and size, into m bytes
 unfoldable pub line_plan : ℕ → ℕ → ℕ → ReadPlan
-line_plan kind size m = unless (eqb kind first) (unless (eqb kind unused) (Refuse not_empty none) (read_blocks 1 m)) (read_blocks size m)
+line_plan kind size m = unless (eqb kind first) (unless (eqb kind unused) (Err NotEmpty) (read_blocks 1 m)) (read_blocks size m)
 
 unfoldable pub indexed_plan : List ℕ → Index → ℕ → ℕ → ReadPlan
 indexed_plan s x b m =
-    unless (store_ok s) (Refuse read_failure bad_store)
-    (unless (same_index x (index_of s)) (Refuse read_failure bad_store)
-    (unless (ltb b (block_count s)) (Refuse update_num_invalid none)
+    unless (store_ok s) (Err BadStore)
+    (unless (same_index x (index_of s)) (Err BadStore)
+    (unless (ltb b (block_count s)) (Err InvalidBlock)
     (line_plan (line_of x b).kind (line_of x b).size m)))
 
 unfoldable pub indexed_answer : List ℕ → Index → ℕ → ℕ → Answer

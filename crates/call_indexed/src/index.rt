@@ -5,53 +5,32 @@ ghost use Rattle.store_index.specs.Index.{index_of};
 ghost use Rattle.store_index.specs.IndexColumns.{columns_of};
 ghost use Rattle.call_indexed.specs.IndexCall.{index_codes, index_reply};
 
-use call_answers::code;
+use call_answers::refusal::Refusal;
 use store_blocks::MOST_BLOCKS;
 use store_index::{COLUMNS, Index};
 
-// The codes of the call.
-#[derive(Clone, Copy)]
-pub struct IndexCodes {
-    pub ah: u8,
-    pub al: u8,
-    pub carry: bool,
-}
-
-// An index, with the codes of the call.
+// An index, and whether the call was done. Of a bad store it is all unused, and stands beside the refusal.
 #[derive(Clone, Copy)]
 pub struct IndexReply {
     pub index: Index,
-    pub codes: IndexCodes,
-}
-
-// The codes, for a store that is valid or not.
-fn codes(ok: bool) -> IndexCodes
-    ensures { result ≡ index_codes ok }
-{
-    if ok {
-        IndexCodes {
-            ah: code::SUCCESS,
-            al: code::NONE,
-            carry: false,
-        }
-    } else {
-        IndexCodes {
-            ah: code::READ_FAILURE,
-            al: code::BAD_STORE,
-            carry: true,
-        }
-    }
+    pub codes: Result<(), Refusal>,
 }
 
 // Writes the index of a store. Of a bad one all lines are unused.
-pub fn put_index(store: &[u8], columns: &mut [[u32; MOST_BLOCKS]; COLUMNS]) -> IndexCodes
+#[tactic(auto, unfolding(crate::specs::IndexCall::index_codes, laws::specs::Unless::unless))]
+pub fn put_index(store: &[u8], columns: &mut [[u32; MOST_BLOCKS]; COLUMNS]) -> Result<(), Refusal>
     ensures answers { result ≡ index_codes (store_ok store.now) }
     ensures makes { columns.new ≡ columns_of (index_of store.now) }
 {
-    codes(store_index::put_index(store, columns))
+    if store_index::put_index(store, columns) {
+        Ok(())
+    } else {
+        Err(Refusal::BadStore)
+    }
 }
 
 // The same by value.
+#[tactic(auto, unfolding(crate::specs::IndexCall::index_reply))]
 pub fn index(store: &[u8]) -> IndexReply
     ensures { result ≡ index_reply store.now }
 {

@@ -4,27 +4,21 @@ ghost use Rattle.store_index.specs.IndexColumns.{index_in};
 ghost use Rattle.call_indexed.specs.IndexedRead.{line_plan, indexed_plan, indexed_answer, indexed_bytes};
 
 use call_answers::answer::Answer;
-use call_answers::code;
+use call_answers::refusal::Refusal;
 use call_reads::read;
 use call_reads::read::ReadPlan;
 use store_blocks::{BLOCK, MOST_BLOCKS};
 use store_index::{COLUMNS, Index, KINDS, SIZES, own};
 
-// By the line of the block, for a destination of `lent` bytes.
+// By the line of the block, for a destination of `lent` bytes. The kinds are numbers, as C lends an index.
+#[tactic(auto, unfolding(crate::specs::IndexedRead::line_plan, laws::specs::Unless::unless))]
 fn line_plan(kind: u32, size: u32, lent: usize) -> ReadPlan
     ensures { result ≡ line_plan kind size lent }
 {
-    if kind == store_index::FIRST {
-        read::read_blocks(size, lent)
-    } else {
-        if kind == store_index::UNUSED {
-            read::read_blocks(1, lent)
-        } else {
-            ReadPlan::Refuse {
-                ah: code::NOT_EMPTY,
-                al: code::NONE,
-            }
-        }
+    match kind {
+        store_index::FIRST => read::read_blocks(size, lent),
+        store_index::UNUSED => read::read_blocks(1, lent),
+        _ => Err(Refusal::NotEmpty),
     }
 }
 
@@ -37,31 +31,15 @@ pub fn indexed_plan(
 ) -> ReadPlan
     ensures { result ≡ indexed_plan store.now (index_in columns.now) block lent }
 {
-    let d = store_directory::read_store(store);
-    let ok = d.ok;
-    if ok {
-        if own::is_own(store, d.count, &d.starts, &d.sizes, columns) {
-            let b = block as usize;
-            if b < store.len() / BLOCK {
-                line_plan(columns[KINDS][b], columns[SIZES][b], lent)
-            } else {
-                ReadPlan::Refuse {
-                    ah: code::UPDATE_NUM_INVALID,
-                    al: code::NONE,
-                }
-            }
-        } else {
-            ReadPlan::Refuse {
-                ah: code::READ_FAILURE,
-                al: code::BAD_STORE,
-            }
-        }
-    } else {
-        ReadPlan::Refuse {
-            ah: code::READ_FAILURE,
-            al: code::BAD_STORE,
-        }
+    let d = store_directory::read_store(store).ok_or(Refusal::BadStore)?;
+    if !own::is_own(store, &d, columns) {
+        return Err(Refusal::BadStore);
     }
+    let b = block as usize;
+    if b >= store.len() / BLOCK {
+        return Err(Refusal::InvalidBlock);
+    }
+    line_plan(columns[KINDS][b], columns[SIZES][b], lent)
 }
 
 // Copies an unused block, or all blocks of the update that begins at the block. The bytes behind them stay.
