@@ -1,4 +1,3 @@
 -- The answer words of the index functions: definitions, then laws.
 pub mod IndexAnswerWords
 pub mod IndexAnswerLaws
-pub mod PlanWordLaws

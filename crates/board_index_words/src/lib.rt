@@ -1,39 +1,42 @@
 // The answer words of the index functions.
 #![tactic(auto)]
 
-ghost use Rattle.std.specs.Prelude.{◌≡◌, true, false};
-ghost use Rattle.board_call_words.specs.Words.{ax_of, answer_words};
+ghost use Rattle.std.specs.Prelude.{◌≡◌, false};
+ghost use Rattle.board_call_words.specs.Words.{answer_words};
 ghost use Rattle.call_reads.specs.Read.{answered};
-ghost use Rattle.call_reads.specs.ReadRefusals.{coded};
-ghost use Rattle.board_index_words.specs.IndexAnswerWords.{index_case};
+ghost use Rattle.board_index_words.specs.IndexAnswerWords.{outcome_ax, codes_words};
 
-use call_answers::code;
+use call_answers::refusal::Refusal;
 use call_reads::read::ReadPlan;
 
-// The case of the index call: 0 done, 1 refused.
-pub fn index_case(ah: u8) -> u32
-    ensures { result ≡ index_case ah }
+// The image of AX of a call that was done or refused.
+pub fn ax<T: Copy>(outcome: Result<T, Refusal>) -> u32
+    ensures { result ≡ outcome_ax outcome }
 {
-    if ah == code::SUCCESS { 0 } else { 1 }
+    match outcome {
+        Ok(_) => 0,
+        Err(r) => board_row::ax(r.ah(), r.al()),
+    }
 }
 
-// The image of AX of a read that went by its plan.
-pub fn plan_ax(plan: ReadPlan) -> u32
-    ensures { result ≡ ax_of (answered plan) }
+// Writes the words of the index call: case 0 where it was done, 1 where it is refused.
+#[tactic(auto, unfolding(crate::specs::IndexAnswerWords::codes_words, board_row::specs::Row::row_of))]
+pub fn codes_words(codes: Result<(), Refusal>, answer: &mut [u32; 16])
+    ensures { answer.new ≡ codes_words codes }
 {
-    match plan {
-        ReadPlan::Copy { blocks: _ } => 0,
-        ReadPlan::Refuse { ah, al } => ah as u32 * 256 + al as u32,
+    match codes {
+        Ok(()) => *answer = [0; 16],
+        Err(r) => board_row::put(answer, r.ah(), r.al(), 0, 1, 0, 0, 0, 0),
     }
 }
 
 // Writes the words of a read that went by its plan. The words of the D042h calls keep one caller, and so stay part of it.
+#[tactic(auto, using(call_answers::specs::RefusalLaws::refusal_coded), unfolding(board_call_words::specs::Words::answer_words, board_row::specs::Row::row_of, call_reads::specs::Read::answered))]
 pub fn plan_words(plan: ReadPlan, answer: &mut [u32; 16])
-    requires { coded plan ≡ true }
     ensures { answer.new ≡ answer_words (answered plan) false }
 {
     match plan {
-        ReadPlan::Copy { blocks } => board_row::put(answer, 0, 0, 0, 3, blocks, 0, 0, 0),
-        ReadPlan::Refuse { ah, al } => board_row::put(answer, ah, al, 0, 4, 0, 0, 0, 0),
+        Ok(blocks) => board_row::put(answer, 0, 0, 0, 3, blocks, 0, 0, 0),
+        Err(r) => board_row::put(answer, r.ah(), r.al(), 0, 4, 0, 0, 0, 0),
     }
 }
