@@ -28,6 +28,7 @@ pub const BLOCK: usize = 2048;
 pub const BLOCK_ROUNDING: usize = BLOCK - 1;
 
 // The number of data bytes that the stored D means.
+#[tactic(auto, unfolding(crate::specs::Sizes::data_size_of))]
 pub fn data_size_of(d: u32) -> u32
     ensures { result ≡ data_size_of d }
 {
@@ -35,6 +36,7 @@ pub fn data_size_of(d: u32) -> u32
 }
 
 // The number of bytes in all that the stored D and T mean.
+#[tactic(auto, unfolding(crate::specs::Sizes::total_size_of))]
 pub fn total_size_of(d: u32, t: u32) -> u32
     ensures { result ≡ total_size_of d t }
 {
@@ -43,28 +45,23 @@ pub fn total_size_of(d: u32, t: u32) -> u32
 
 // The rule for D and T, with the table's count field. No sum is taken in 32 bits, so a huge D can't look small. With a table T is a multiple
 // of 4 because D is.
+#[tactic(auto, unfolding(crate::specs::Sizes::sizes_ok))]
 pub fn sizes_ok(d: u32, t: u32, n: u32) -> bool
     ensures { result ≡ sizes_ok d t n }
 {
-    if d % DATA_UNIT != 0 {
-        return false;
-    }
-    if t > MOST_TOTAL {
+    if d % DATA_UNIT != 0 || t > MOST_TOTAL {
         return false;
     }
     if t as usize == HEADER + d as usize {
         return t % TOTAL_UNIT == 0;
     }
-    if n < 1 {
-        return false;
-    }
-    if n > MOST_ENTRIES {
-        return false;
-    }
-    t as usize == HEADER + d as usize + TABLE_HEAD + ENTRY * (n as usize)
+    n >= 1
+        && n <= MOST_ENTRIES
+        && t as usize == HEADER + d as usize + TABLE_HEAD + ENTRY * (n as usize)
 }
 
 // The number of entries, where the sizes are right.
+#[tactic(auto, unfolding(crate::specs::Sizes::entries_of))]
 pub fn entries_of(d: u32, t: u32, n: u32) -> u32
     ensures { result ≡ entries_of d t n }
 {
@@ -76,6 +73,7 @@ pub fn entries_of(d: u32, t: u32, n: u32) -> u32
 }
 
 // The number of blocks that `t` bytes occupy.
+#[tactic(auto, unfolding(crate::specs::Sizes::blocks_of))]
 pub fn blocks_of(t: u32) -> u32
     ensures { result ≡ blocks_of t }
 {
