@@ -6,6 +6,7 @@ use crate::fields;
 use update_sizes::HEADER;
 
 // The data bytes, as many as there are.
+#[tactic(auto, using(crate::specs::DataPartLaws::parting))]
 pub fn data_part(s: &[u8]) -> &[u8]
     ensures { result.now ≡ data_part s.now }
 {

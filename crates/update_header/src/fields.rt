@@ -70,6 +70,7 @@ pub fn stored_total_size(s: &[u8]) -> u32
 }
 
 // The number of data bytes.
+#[tactic(auto, unfolding(crate::specs::Fields::data_size))]
 pub fn data_size(s: &[u8]) -> u32
     ensures { result ≡ data_size s.now }
 {
@@ -77,6 +78,7 @@ pub fn data_size(s: &[u8]) -> u32
 }
 
 // The number of bytes in all.
+#[tactic(auto, unfolding(crate::specs::Fields::total_size))]
 pub fn total_size(s: &[u8]) -> u32
     ensures { result ≡ total_size s.now }
 {
@@ -84,6 +86,7 @@ pub fn total_size(s: &[u8]) -> u32
 }
 
 // The table's count field, which stands behind the `d` data bytes.
+#[tactic(auto, unfolding(crate::specs::Fields::table_count))]
 pub fn table_count(s: &[u8], d: u32) -> u32
     requires { d ≡ data_size s.now }
     ensures { result ≡ table_count s.now }
