@@ -6,11 +6,11 @@
 --   reading                   a reading, from its numbers
 --   data_read, total_read     the sizes, from the fields of the header
 --   header_lent .. judged_reading    the same of an update that isn't judged again: its header and its table's count are lent
---   pairing                   the same and the count of pairs, as `search` takes them
-use Prim.Native.Nat.{ℕ, zero, suc, ◌+◌, ◌*◌, ◌<◌, ◌≤◌, min}
-use Rattle.std.specs.Prelude.{◌≡◌, Bool, List, length}
+--   pairing, judging          the same and the count of pairs, and what an update says that isn't judged again, as `search` takes them
+use Prim.Native.Nat.{ℕ, zero, suc, ◌+◌, ◌-◌, ◌*◌, ◌<◌, ◌≤◌, min}
+use Rattle.std.specs.Prelude.{◌≡◌, Bool, cond, List, length}
 use Rattle.std.proofs.Math.Path.{refl, ap}
-use Rattle.std.proofs.Common.{sym, ◌∙◌}
+use Rattle.std.proofs.Common.{sym, ◌∙◌, add-zero}
 use Rattle.std.proofs.Math.Bool.{true, false}
 use native.Mathlib.Omega.{arith}
 use Rattle.std.proofs.Math.Dec.{eqb}
@@ -84,10 +84,13 @@ module _ (s : List ℕ) where
       pub pair_few : i ≤ 64
       pair_few = inside_pair.few
 
-      pub signature_inside : (r : ℕ) → r ≡ signature_offset p.data i → r + 4 ≤ length s
-      signature_inside r q = let y = inside_pair in rw (q, data_is) (omega (arith, y.signature, y.lent))
+      -- r is where the code reads the field
+      pub signature_inside : (r : ℕ) → r ≡ cond (eqb i 0) 12 (entry_offset p.data (i - 1) + 0) → r + 4 ≤ length s
+      unfolding signature_offset
+      signature_inside r q = let y = inside_pair in rw (q, data_is, add-zero) (omega (arith, y.signature, y.lent))
 
-      pub flags_inside : (r : ℕ) → r ≡ flags_offset p.data i → r + 4 ≤ length s
+      pub flags_inside : (r : ℕ) → r ≡ cond (eqb i 0) 24 (entry_offset p.data (i - 1) + 4) → r + 4 ≤ length s
+      unfolding flags_offset
       flags_inside r q = let y = inside_pair in rw (q, data_is) (omega (arith, y.flags, y.lent))
 
   -- the reading, from its numbers
@@ -158,3 +161,5 @@ module _ (s : List ℕ) where
       pairs_are n h k g = rw (← e, h, ← f, k, g)
 
 pub ruleset pairing = (pair_few, signature_inside, flags_inside, pairs_no_header, pairs_no_sizes, pairs_are, entry_count_is, entry_count_few)
+
+pub ruleset judging = (header_lent, judged_few, data_read, total_read)
