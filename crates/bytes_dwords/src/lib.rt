@@ -6,13 +6,6 @@ ghost use Rattle.bytes_dwords.specs.Dword.{dword};
 ghost use Rattle.bytes_dwords.specs.Sum.{dword_sum};
 ghost use Rattle.bytes_dwords.specs.Summed.{summed};
 
-// A byte as a 32-bit number.
-pub fn wide(x: u8) -> u32
-    ensures { (result ≡ x) × (result < 256) }
-{
-    u32::from(x)
-}
-
 // The dword at byte `at`, all four bytes of which are there. It compiles to one load.
 #[tactic(auto, unfolding(crate::specs::Dword::dword))]
 pub fn dword_inside(s: &[u8], at: usize) -> u32
