@@ -1,12 +1,14 @@
 -- What the program's `Marked` stands for.
 --   stored_of       the updates of a `Marked`
 --   marks_of    arrays, and a count of at most 32, as a `Marked`
+--   update_of   update i of a `Marked`
 --   both_at     both marks of two arrays
 --   both_marks_is, shared_marks    so they stand for the marks of the updates
 use Rattle.std.specs.Prelude.{ℕ, ◌≤◌, ◌≡◌, Bool, false, ◌&&◌, List, get_or}
 use Rattle.laws.specs.Below.{any_below}
 use Rattle.laws.specs.Arrays.{mark_at}
 use Rattle.laws.specs.Count.{count_below}
+use Rattle.write_overlap.specs.declared.Stored.{Stored}
 use Rattle.write_marks.specs.declared.Marked.{Marked}
 use Rattle.write_marks.specs.StoredUpdates.{StoredUpdates}
 use Rattle.write_marks.specs.Against.{both_marks}
@@ -18,6 +20,9 @@ stored_of m = record { count = m.count; start = λ i. get_or m.starts i 0; size 
 -- arrays, and a count of at most 32, as a `Marked`
 abbrev pub marks_of : List ℕ → List ℕ → List Bool → List Bool → (count : ℕ) → count ≤ 32 → Marked
 marks_of starts sizes shares needed count few = record { starts = starts; sizes = sizes; shares = shares; needed = needed; count = count; few = few }
+
+abbrev pub update_of : Marked → ℕ → Stored
+update_of m i = record { start = get_or m.starts i 0; size = get_or m.sizes i 0; shares = get_or m.shares i false; needed = get_or m.needed i false }
 
 unfoldable pub both_at : List Bool → List Bool → ℕ → Bool
 both_at xs ys i = mark_at xs i && mark_at ys i

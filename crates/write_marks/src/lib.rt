@@ -6,6 +6,7 @@ ghost use Rattle.laws.specs.Bits.{bits_below};
 ghost use Rattle.laws.specs.Span.{spans};
 
 use store_blocks::MOST_BLOCKS;
+use write_overlap::Stored;
 
 // The stored updates in the order of their starts: update i < count starts at a block, has a size in blocks, and two marks against the
 // candidate: it covers a processor that the candidate covers; it covers a listed processor that the candidate doesn't.
@@ -33,7 +34,7 @@ fn block_bits(start: u8, size: u8) -> u32
 }
 
 impl Marked {
-    ghost use Rattle.std.specs.Prelude.{◌≡◌, false};
+    ghost use Rattle.std.specs.Prelude.{◌≡◌, ◌<◌, false};
     ghost use Rattle.laws.specs.Below.{any_below};
     ghost use Rattle.laws.specs.Count.{count_below};
     ghost use Rattle.laws.specs.Arrays.{Filled, mark_at};
@@ -41,7 +42,20 @@ impl Marked {
     ghost use Rattle.write_marks.specs.StoredUpdates.{Fitting};
     ghost use Rattle.write_marks.specs.Against.{fills, ruled_out, lost, emptied_block};
     ghost use Rattle.write_marks.specs.Capped.{capped};
-    ghost use Rattle.write_marks.specs.StoredMarks.{stored_of, both_at};
+    ghost use Rattle.write_marks.specs.StoredMarks.{stored_of, update_of, both_at};
+
+    // Update i.
+    fn at(&self, i: usize) -> Stored
+        requires { i < self.now.count }
+        ensures { result ≡ update_of self.now i }
+    {
+        Stored {
+            start: self.starts[i],
+            size: self.sizes[i],
+            shares: self.shares[i],
+            needed: self.needed[i],
+        }
+    }
 
     // Does some update rule the start out?
     #[tactic(auto, using(laws::specs::Loops::scan), unfolding(crate::specs::Against::ruled_out, crate::specs::Against::rules_out, crate::specs::StoredMarks::stored_of))]
@@ -49,14 +63,7 @@ impl Marked {
         ensures { result ≡ ruled_out (stored_of self.now) k s }
     {
         for i in 0..self.count {
-            if write_overlap::rules_out(
-                self.starts[i],
-                self.sizes[i],
-                self.shares[i],
-                self.needed[i],
-                k,
-                s,
-            ) {
+            if self.at(i).rules_out(k, s) {
                 return true;
             }
         }
@@ -70,7 +77,7 @@ impl Marked {
     {
         let mut touched: u32 = 0;
         for i in 0..self.count {
-            if write_overlap::loses(self.starts[i], self.sizes[i], self.shares[i], k, s) {
+            if self.at(i).loses(k, s) {
                 if limit <= touched + 1 {
                     return limit;
                 }
@@ -114,7 +121,7 @@ impl Marked {
     {
         let mut marks = [false; MOST_BLOCKS];
         for i in 0..self.count {
-            marks[i] = write_overlap::fills(self.starts[i], self.sizes[i], self.shares[i], k, s);
+            marks[i] = self.at(i).fills(k, s);
         }
         marks
     }
@@ -127,8 +134,9 @@ impl Marked {
     {
         let mut bits: u32 = 0;
         for i in 0..self.count {
-            if write_overlap::is_emptied(self.starts[i], self.sizes[i], self.shares[i], k, s) {
-                bits |= block_bits(self.starts[i], self.sizes[i]);
+            let u = self.at(i);
+            if u.is_emptied(k, s) {
+                bits |= block_bits(u.start, u.size);
             }
         }
         bits

@@ -10,4 +10,4 @@ loop-i-init c = filled_none _ _ _
 
 pub loop-i-preserved : goal.loop-i-preserved
 unfolding fills stored_of
-loop-i-preserved c = filled_more _ _ _ _ _ _ c.loop-i.invariant (omega arith) c.fills.ensures
+loop-i-preserved c = filled_more _ _ _ _ _ _ c.loop-i.invariant (omega arith) (rw c.at.ensures at c.fills.ensures)
