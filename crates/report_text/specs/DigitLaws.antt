@@ -2,7 +2,7 @@
 --   decimal_one, decimal_more     a number below 10 is one digit; any other is what stands before its last digit, and that digit
 --   decimal_two                   a number from 10 to 99
 --   decimal_few                   a number below 100 has at most two digits
---   hex_more                      one more hex digit, which a call gave
+--   hex_none, hex_more, hex_all   no hex digit yet, one more, which a call gave, and all
 --   hex_long                      eight of them
 use Rattle.std.specs.Prelude.{ℕ, zero, suc, ◌+◌, ◌*◌, ◌-◌, ◌/◌, ◌%◌, ◌^◌, ◌<◌, ◌≤◌, ◌≡◌, refl, Bool, true, false, [], ◌∷◌, ◌++◌, length, ltb}
 use Rattle.std.proofs.Common.{⊎_elim, arith, add-one, lt-ltb, le-ltb, ltb-false}
@@ -37,9 +37,17 @@ decimal_few n l =
     (λ (h : n < 10). rw (decimal_one n h) (omega arith))
     (le_or_lt 10 n)
 
+pub hex_none : (n : ℕ) → hex_to n 0 ≡ []
+unfolding hex_to
+hex_none n = refl
+
 pub hex_more : (n i d : ℕ) → d ≡ hex_digit (n / 2 ^ (4 * (7 - i)) % 16) → hex_to n (i + 1) ≡ hex_to n i ++ (d ∷ [])
 unfolding hex_to
 hex_more n i d e = rw (add-one i, e)
+
+pub hex_all : (n i : ℕ) → i ≡ 8 → hex_to n i ≡ hex8 n
+unfolding hex8
+hex_all n i e = rw e
 
 pub hex_long : (n : ℕ) → length (hex8 n) ≡ 8
 unfolding hex8 hex_to

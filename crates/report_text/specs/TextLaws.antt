@@ -1,7 +1,7 @@
 -- Laws of a text that is being made.
 --   added_none     nothing is added
 --   added_byte     one byte is
---   added_more     what is added in two steps
+--   added_twice, added_more     what is added in two steps
 --   added_long     how many bytes count then
 --   none_long      no text has no bytes
 --   made_text      what was added to no text is the text
@@ -23,9 +23,12 @@ pub added_byte : (t r : Text) (b : ℕ) → t.len < length t.bytes → r.bytes �
 unfolding added
 added_byte t r b l e f = rw (← put_one t.bytes t.len b l, ← e, ← f)
 
-pub added_more : (t u r : Text) (xs ys : List ℕ) → u ≡ added t xs → r ≡ added u ys → r ≡ added t (xs ++ ys)
+pub added_twice : (t : Text) (xs ys : List ℕ) → added (added t xs) ys ≡ added t (xs ++ ys)
 unfolding added
-added_more t u r xs ys e f = rw (f, e, put_both t.bytes t.len xs ys, length-append xs ys, add_assoc)
+added_twice t xs ys = rw (put_both t.bytes t.len xs ys, length-append xs ys, add_assoc)
+
+pub added_more : (t u r : Text) (xs ys : List ℕ) → u ≡ added t xs → r ≡ added u ys → r ≡ added t (xs ++ ys)
+added_more t u r xs ys e f = rw (f, e) (added_twice t xs ys)
 
 pub added_long : (t r : Text) (xs : List ℕ) → r ≡ added t xs → r.len ≡ t.len + length xs
 unfolding added

@@ -10,14 +10,14 @@ ghost use Rattle.report_text.specs.Texts.{text_room, no_text, added};
 // How many bytes a text has room for.
 pub const ROOM: usize = 1024;
 
-// What became of a text.
-#[derive(Clone, Copy)]
-pub enum Report {
-    // it stands in the buffer's first `length` bytes
-    Text { length: u32 },
-    // it has `length` bytes, more than the buffer, which is as it was
-    Short { length: u32 },
+// A text of `needed` bytes, more than the buffer has, which is as it was.
+#[derive(Clone, Copy, PartialEq, Eq)]
+pub struct ShortBuffer {
+    pub needed: u32,
 }
+
+// What became of a text: how many of the buffer's first bytes it is, or that the buffer is too short.
+pub type Report = Result<u32, ShortBuffer>;
 
 // A text that is being made.
 #[derive(Clone, Copy)]
@@ -27,50 +27,74 @@ pub struct Text {
     pub len: usize,
 }
 
-pub fn empty() -> Text
-    ensures { result ≡ no_text }
-{
-    Text {
-        bytes: [0; ROOM],
-        len: 0,
+impl Text {
+    #[tactic(auto, unfolding(crate::specs::Texts::no_text))]
+    pub fn empty() -> Text
+        ensures text { result ≡ no_text }
+        ensures long { result.len ≡ 0 }
+    {
+        Text {
+            bytes: [0; ROOM],
+            len: 0,
+        }
+    }
+
+    #[tactic(auto, using(crate::specs::TextLaws::added_byte))]
+    pub fn byte(self, b: u8) -> Text
+        requires { self.len < text_room }
+        ensures text { result ≡ added self (b ∷ []) }
+        ensures long { result.len ≡ self.len + 1 }
+    {
+        let at = self.len;
+        let mut bytes = self.bytes;
+        bytes[at] = b;
+        Text { bytes, len: at + 1 }
+    }
+
+    #[tactic(auto, using(crate::specs::TextListLaws::take_more, crate::specs::TextLaws::added_none, crate::specs::TextLaws::added_twice))]
+    pub fn word(self, s: &[u8]) -> Text
+        requires { self.len + length s.now ≤ text_room }
+        ensures text { result ≡ added self s.now }
+        ensures long { result.len ≡ self.len + length s.now }
+    {
+        let mut r = self;
+        for b in s {
+            r = r.byte(*b);
+        }
+        r
+    }
+
+    // A number below 100, without padding.
+    #[tactic(auto, using(crate::specs::DigitLaws::decimal_one, crate::specs::DigitLaws::decimal_two, crate::specs::TextLaws::added_twice))]
+    pub fn decimal(self, n: u32) -> Text
+        requires { TwoDigits n × (self.len + 2 ≤ text_room) }
+        ensures text { result ≡ added self (decimal n) }
+        ensures long { result.len ≤ self.len + 2 }
+    {
+        if n < 10 {
+            self.byte(b'0' + n as u8)
+        } else {
+            let tens = self.byte(b'0' + (n / 10) as u8);
+            tens.byte(b'0' + (n % 10) as u8)
+        }
+    }
+
+    // Eight upper-case hex digits.
+    #[tactic(auto, using(crate::specs::DigitLaws::hex_none, crate::specs::DigitLaws::hex_more, crate::specs::DigitLaws::hex_all, crate::specs::TextLaws::added_none, crate::specs::TextLaws::added_twice))]
+    pub fn hex8(self, n: u32) -> Text
+        requires { self.len + 8 ≤ text_room }
+        ensures text { result ≡ added self (hex8 n) }
+        ensures long { result.len ≡ self.len + 8 }
+    {
+        let mut r = self;
+        for i in 0..8u32 {
+            r = r.byte(hex_digit((n >> (4 * (7 - i))) % 16));
+        }
+        r
     }
 }
 
-pub fn byte(t: Text, b: u8) -> Text
-    requires { t.len < text_room }
-    ensures { result ≡ added t (b ∷ []) }
-{
-    let at = t.len;
-    let mut bytes = t.bytes;
-    bytes[at] = b;
-    Text { bytes, len: at + 1 }
-}
-
-pub fn word(t: Text, s: &[u8]) -> Text
-    requires { t.len + length s.now ≤ text_room }
-    ensures { result ≡ added t s.now }
-{
-    let mut r = t;
-    let mut i: usize = 0;
-    while i < s.len() {
-        r = byte(r, s[i]);
-        i += 1;
-    }
-    r
-}
-
-// A number below 100, without padding.
-pub fn decimal(t: Text, n: u32) -> Text
-    requires { TwoDigits n × (t.len + 2 ≤ text_room) }
-    ensures { result ≡ added t (decimal n) }
-{
-    if n < 10 {
-        byte(t, b'0' + n as u8)
-    } else {
-        byte(byte(t, b'0' + (n / 10) as u8), b'0' + (n % 10) as u8)
-    }
-}
-
+#[tactic(auto, using(laws::specs::Tests::cases), unfolding(crate::specs::Digits::hex_digit))]
 fn hex_digit(d: u32) -> u8
     requires { d < 16 }
     ensures { result ≡ hex_digit d }
@@ -80,18 +104,4 @@ fn hex_digit(d: u32) -> u8
     } else {
         b'A' + (d - 10) as u8
     }
-}
-
-// Eight upper-case hex digits.
-pub fn hex8(t: Text, n: u32) -> Text
-    requires { t.len + 8 ≤ text_room }
-    ensures { result ≡ added t (hex8 n) }
-{
-    let mut r = t;
-    let mut i: u32 = 0;
-    while i < 8 {
-        r = byte(r, hex_digit((n >> (4 * (7 - i))) % 16));
-        i += 1;
-    }
-    r
 }
