@@ -18,39 +18,39 @@ use store_directory::Directory;
 pub const LARGEST_STORE: usize = MOST_BLOCKS * BLOCK;
 
 // The text of a valid store of `n` blocks, whose directory `d` is. A block that no entry has is unused.
+#[tactic(auto, using(report_text::specs::TextLaws::added_twice, report_text::specs::TextLaws::added_none, crate::proofs::LineLaws::entry_small, crate::proofs::CatalogueLaws::count_small, crate::proofs::WalkLaws::entries_none, crate::proofs::WalkLaws::entries_more, crate::proofs::WalkLaws::used_none, crate::proofs::WalkLaws::used_more, crate::proofs::WalkLaws::used_inside, store_directory::proofs::StoreLaws::directory_few))]
 fn listing(s: &[u8], d: Directory, n: u32) -> Text
     requires { (store_ok s.now ≡ true) × (d ≡ directory s.now) × (n ≡ block_count s.now) }
-    ensures { (result ≡ added no_text (catalogue_text s.now)) × (result.len ≤ text_room) }
+    ensures text { result ≡ added no_text (catalogue_text s.now) }
+    ensures long { result.len ≤ text_room }
 {
-    let head = report_text::word(report_text::empty(), b"blocks ");
-    let mut t = lines::number(head, n, b'\n');
-    let mut free: u32 = n;
-    let mut i: usize = 0;
-    while i < d.count {
-        let start = bytes_dwords::wide(d.starts[i]);
-        let size = bytes_dwords::wide(d.sizes[i]);
+    let mut t = lines::number(Text::empty().word(b"blocks "), n, b'\n');
+    let mut free = n;
+    for i in 0..d.count {
+        let start = u32::from(d.starts[i]);
+        let size = u32::from(d.sizes[i]);
         t = lines::update_line(t, s, start, size);
         free -= size;
-        i += 1;
     }
-    let foot = report_text::word(t, b"free ");
-    lines::number(foot, free, b'\n')
+    lines::number(t.word(b"free "), free, b'\n')
 }
 
 // The text of any bytes, taken as a store.
+#[tactic(auto, using(store_directory::proofs::StoreLaws::directory_good, store_directory::proofs::ValidLaws::blocks_few, crate::proofs::CatalogueLaws::count_is, crate::proofs::CatalogueLaws::text_bad))]
 fn text_of(s: &[u8]) -> Text
-    ensures { (result ≡ added no_text (catalogue_text s.now)) × (result.len ≤ text_room) }
+    ensures text { result ≡ added no_text (catalogue_text s.now) }
+    ensures long { result.len ≤ text_room }
 {
     let d = store_directory::read_store(s);
-    let ok = d.ok;
-    if ok {
+    if d.ok {
         listing(s, d, (s.len() / BLOCK) as u32)
     } else {
-        report_text::word(report_text::empty(), b"bad store\n")
+        Text::empty().word(b"bad store\n")
     }
 }
 
 // Writes the catalogue of any bytes, taken as a store, into `out`. A text's room is always enough.
+#[tactic(auto, using(report_text::specs::TextLaws::made_text, crate::proofs::CatalogueLaws::text_short))]
 pub fn catalogue(store: &[u8], out: &mut [u8]) -> Report
     ensures value { result ≡ reported store.now (length out.old) }
     ensures out_after { out.new ≡ reported_bytes store.now out.old }
