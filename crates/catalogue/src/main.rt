@@ -5,7 +5,7 @@ ghost use Rattle.std.specs.Prelude.{◌≡◌, ◌≤◌, IfOk, length};
 ghost use Rattle.report_catalogue.specs.Catalogue.{input_room};
 
 use report_catalogue::LARGEST_STORE;
-use report_text::{ROOM, Report};
+use report_text::ROOM;
 use std::io;
 use std::io::{Print, Read};
 
@@ -24,6 +24,7 @@ fn read<R: Read>(input: &mut R, buffer: &mut [u8]) -> io::Result<usize>
 {
     let mut chunk = [0u8; 4096];
     let mut have: usize = 0;
+    // a count of bytes: how far each turn goes is the reader's to say
     while have < buffer.len() {
         let n = input.read(&mut chunk)?;
         if n == 0 {
@@ -38,8 +39,8 @@ fn read<R: Read>(input: &mut R, buffer: &mut [u8]) -> io::Result<usize>
 fn write<P: Print>(out: &P, store: &[u8]) -> io::Result<()> {
     let mut text = [0u8; ROOM];
     match report_catalogue::catalogue(store, &mut text) {
-        Report::Text { length } => out.write_all(&text[..length as usize]),
-        Report::Short { length: _ } => Ok(()),
+        Ok(length) => out.write_all(&text[..length as usize]),
+        Err(_) => Ok(()),
     }
 }
 
