@@ -14,7 +14,6 @@ use Rattle.laws.specs.Unless.{unless}
 use Rattle.update_sizes.specs.Sizes.{block}
 use Rattle.store_blocks.specs.Blocks.{most_blocks, block_count, length_ok}
 use Rattle.store_directory.specs.Scan.{store_ok, directory}
-use Rattle.store_directory.proofs.StoreLaws.{directory_ok}
 use Rattle.store_directory.proofs.ValidLaws.{store_valid}
 use Rattle.store_directory.specs.DirectoryEntries.{start_of, size_of}
 use Rattle.store_directory.specs.declared.Directory.{Directory}
@@ -45,18 +44,17 @@ pub walk_more : (s : List ℕ) (d : Directory) (i b k : ℕ) (t u r : Text) → 
     → r ≡ added u (catalogue_line s b k) → r ≡ added t (entries_to s d (i + 1))
 walk_more s d i b k t u r e f g h = rw (entries_more s d i, ← e, ← f) (added_more t u r (entries_to s d i) (catalogue_line s b k) g h)
 
--- d is the local that holds the directory
-module _ (s : List ℕ) (d : Directory) (e : d ≡ directory s) where
-  pub text_bad : (empty text : Text) → d.ok ≡ false → empty ≡ no_text → text ≡ added empty bad_text → text ≡ added no_text (catalogue_text s)
+module _ (s : List ℕ) where
+  pub text_bad : (empty text : Text) → store_ok s ≡ false → empty ≡ no_text → text ≡ added empty bad_text → text ≡ added no_text (catalogue_text s)
   unfolding catalogue_text unless
-  text_bad empty text f g h = rw (← directory_ok s d e, f, h, g)
+  text_bad empty text f g h = rw (f, h, g)
 
-  -- what stands before the lines, with them, before the last number, and the whole
-  pub text_good : (empty word head lines foot text : Text) (n i free : ℕ) → store_ok s ≡ true → n ≡ block_count s → i ≤ d.count → d.count ≤ i
+  -- d is the local that holds the directory; what stands before the lines, with them, before the last number, and the whole
+  pub text_good : (d : Directory) → d ≡ directory s → (empty word head lines foot text : Text) (n i free : ℕ) → store_ok s ≡ true → n ≡ block_count s → i ≤ d.count → d.count ≤ i
       → free + used_to d i ≡ n → empty ≡ no_text → word ≡ added empty blocks_word → head ≡ added word (decimal n ++ newline)
       → lines ≡ added head (entries_to s d i) → foot ≡ added lines free_word → text ≡ added foot (decimal free ++ newline) → text ≡ added no_text (catalogue_text s)
   unfolding catalogue_text unless
-  text_good empty word head lines foot text n i free ok c l m f g h j k o p =
+  text_good d e empty word head lines foot text n i free ok c l m f g h j k o p =
       let q : unused_to s (block_count s) ≡ free = omega (arith, free_entries s ok d e i l m) in
       rw (ok, lines_entries s ok d e i l m, q, ← c, ← g)
       (added_more _ _ _ _ _ (added_more _ _ _ _ _ (added_more _ _ _ _ _ (added_more _ _ _ _ _ h j) k) o) p)

@@ -36,16 +36,14 @@ fn listing(s: &[u8], d: Directory, n: u32) -> Text
 }
 
 // The text of any bytes, taken as a store.
-#[tactic(auto, using(store_directory::proofs::StoreLaws::directory_good, store_directory::proofs::ValidLaws::blocks_few, crate::proofs::CatalogueLaws::count_is, crate::proofs::CatalogueLaws::text_bad))]
+#[tactic(auto, using(store_directory::proofs::StoreLaws::stored_some, store_directory::proofs::StoreLaws::stored_none, store_directory::proofs::ValidLaws::blocks_few, crate::proofs::CatalogueLaws::count_is, crate::proofs::CatalogueLaws::text_bad))]
 fn text_of(s: &[u8]) -> Text
     ensures text { result ≡ added no_text (catalogue_text s.now) }
     ensures long { result.len ≤ text_room }
 {
-    let d = store_directory::read_store(s);
-    if d.ok {
-        listing(s, d, (s.len() / BLOCK) as u32)
-    } else {
-        Text::empty().word(b"bad store\n")
+    match store_directory::read_store(s) {
+        Some(d) => listing(s, d, (s.len() / BLOCK) as u32),
+        None => Text::empty().word(b"bad store\n"),
     }
 }
 
