@@ -9,7 +9,7 @@ use test_samples::bytes;
 fn fill(buf: &mut [u8]) {
     let mut x: u32 = 0;
     for k in 0..8200usize {
-        x = std::num::wrapping_add_u32(x, 0x9E3779B9);
+        x = x.wrapping_add(0x9E3779B9);
         bytes::dword(buf, 4 * k, x);
     }
 }
@@ -27,26 +27,18 @@ fn line<P: Print>(out: &P, buf: &[u8], from: u32, dwords: u32, more: u32) -> io:
 
 // With no byte behind the last dword, and with one, two and three.
 fn lines<P: Print>(out: &P, buf: &[u8], dwords: u32) -> io::Result<()> {
-    line(out, buf, 0, dwords, 0)?;
-    line(out, buf, 0, dwords, 1)?;
-    line(out, buf, 0, dwords, 2)?;
-    line(out, buf, 0, dwords, 3)
+    for more in 0..4 {
+        line(out, buf, 0, dwords, more)?;
+    }
+    Ok(())
 }
 
 fn main(rt: HostRuntime) -> io::Result<()> {
-    let mut space = [0u8; 65536];
-    let buf: &mut [u8] = &mut space;
+    let buf: &mut [u8] = &mut [0u8; 65536];
     fill(buf);
-    lines(&rt, buf, 0)?;
-    lines(&rt, buf, 1)?;
-    lines(&rt, buf, 15)?;
-    lines(&rt, buf, 16)?;
-    lines(&rt, buf, 17)?;
-    lines(&rt, buf, 31)?;
-    lines(&rt, buf, 32)?;
-    lines(&rt, buf, 33)?;
-    lines(&rt, buf, 512)?;
-    lines(&rt, buf, 8192)?;
+    for dwords in [0, 1, 15, 16, 17, 31, 32, 33, 512, 8192] {
+        lines(&rt, buf, dwords)?;
+    }
     line(&rt, buf, 1, 33, 0)?;
     line(&rt, buf, 2, 33, 1)?;
     line(&rt, buf, 3, 33, 2)?;
