@@ -8,7 +8,7 @@ pub fn text<P: Print>(out: &P, s: &[u8]) -> io::Result<()> {
     out.write_all(s)
 }
 
-// A number behind a label.
+// A number behind a label. The next two differ in its form alone, which `print!` takes only as a literal.
 pub fn number<P: Print>(out: &P, label: &[u8], n: u32) -> io::Result<()> {
     text(out, label)?;
     print!(out; "{n}")
