@@ -3,11 +3,13 @@
 --   bytes_of    the four bytes of a number
 --   put_dword   one number, little-endian
 --   fill        n times the same byte
+--   little_endian    they are the library's
 --   putting     the ways of the code, as `search` takes them
-use Rattle.std.specs.Prelude.{◌≡◌, ℕ, ◌+◌, ◌/◌, ◌%◌, ◌<◌, ◌≤◌, cond, ◌&&◌, List, [], ◌∷◌, length, replicate, nat_le}
+use Rattle.std.specs.Prelude.{◌≡◌, ℕ, ◌+◌, ◌/◌, ◌%◌, ◌^◌, ◌<◌, ◌≤◌, cond, ◌&&◌, List, [], ◌∷◌, length, replicate, nat_le}
 use Rattle.std.proofs.Math.Bool.{and-false}
 use Rattle.std.proofs.Common.{arith}
 use borrow.Author.Tests.{le-leb, lt-leb}
+use Rattle.std.specs.Int.{w32, to_le_bytes}
 use Rattle.bytes_copy.specs.Paste.{put_at}
 
 unfoldable pub put : List ℕ → ℕ → List ℕ → ℕ → List ℕ
@@ -21,6 +23,10 @@ put_dword s at x = put s at (bytes_of x) 4
 
 unfoldable pub fill : List ℕ → ℕ → ℕ → ℕ → List ℕ
 fill s from n byte = put s from (replicate 32768 byte) n
+
+-- the library's bytes of a number
+pub little_endian : (x : ℕ) → x < 2 ^ 32 → to_le_bytes w32 x ≡ bytes_of x
+little_endian x l = let e : x / 16777216 % 256 ≡ x / 16777216 = omega arith in rw e
 
 module _ (s : List ℕ) (at : ℕ) (p : List ℕ) (n : ℕ) where
   pub put_done : (r : List ℕ) → n ≤ 32768 → n ≤ length p → at + n ≤ length s → r ≡ put_at s at p n → r ≡ put s at p n

@@ -6,6 +6,7 @@ use crate::bytes;
 use update_header::fields;
 
 // A header with right versions and the date of document 01's P. D and T are written as given.
+#[tactic(auto, unfolding(crate::specs::Make::header))]
 pub fn header(buf: &mut [u8], revision: u32, signature: u32, flags: u32, d: u32, t: u32)
     ensures { buf.new ≡ header buf.old revision signature flags d t }
 {
@@ -23,10 +24,11 @@ pub fn header(buf: &mut [u8], revision: u32, signature: u32, flags: u32, d: u32,
 fn negated(x: u32) -> u32
     ensures { result ≡ negated x }
 {
-    if x == 0 { 0 } else { 0xFFFFFFFF - x + 1 }
+    x.wrapping_neg()
 }
 
 // Writes into the dword at `at` what makes the bytes from `from` to `end` sum to 0.
+#[tactic(auto, unfolding(crate::specs::Make::balance))]
 pub fn balance(buf: &mut [u8], at: u32, from: u32, end: u32)
     ensures { buf.new ≡ balance buf.old at from end }
 {
@@ -36,6 +38,7 @@ pub fn balance(buf: &mut [u8], at: u32, from: u32, end: u32)
 }
 
 // The update P of document 01, with a revision and a checksum, in a buffer of zeros.
+#[tactic(auto, unfolding(crate::specs::Make::p))]
 pub fn p(buf: &mut [u8], revision: u32, checksum: u32)
     ensures { buf.new ≡ p buf.old revision checksum }
 {
@@ -44,6 +47,7 @@ pub fn p(buf: &mut [u8], revision: u32, checksum: u32)
 }
 
 // An update of T bytes without a table.
+#[tactic(auto, unfolding(crate::specs::Make::plain))]
 pub fn plain(buf: &mut [u8], revision: u32, signature: u32, flags: u32, d: u32, t: u32)
     ensures { buf.new ≡ plain buf.old revision signature flags d t }
 {
@@ -52,15 +56,18 @@ pub fn plain(buf: &mut [u8], revision: u32, signature: u32, flags: u32, d: u32, 
 }
 
 // The checksum that is right for an entry.
+#[tactic(auto, unfolding(crate::specs::Make::rest_of))]
 fn rest_of(s: &[u8], signature: u32, flags: u32) -> u32
     ensures { result ≡ rest_of s.now signature flags }
 {
-    let pair = std::num::wrapping_add_u32(fields::signature(s), fields::flags(s));
-    let sum = std::num::wrapping_add_u32(pair, fields::checksum(s));
-    std::num::wrapping_add_u32(sum, negated(std::num::wrapping_add_u32(signature, flags)))
+    fields::signature(s)
+        .wrapping_add(fields::flags(s))
+        .wrapping_add(fields::checksum(s))
+        .wrapping_add(negated(signature.wrapping_add(flags)))
 }
 
 // Writes entry `k` of the table at `at`, with the checksum that is right for it.
+#[tactic(auto, unfolding(crate::specs::Make::entry))]
 pub fn entry(buf: &mut [u8], at: u32, k: u32, signature: u32, flags: u32)
     ensures { buf.new ≡ entry buf.old at k signature flags }
 {
@@ -72,25 +79,21 @@ pub fn entry(buf: &mut [u8], at: u32, k: u32, signature: u32, flags: u32)
 }
 
 // Writes the `n` entries of the table at `at`, for the signatures after `signature`.
+#[tactic(auto, using(crate::specs::Make::entries_none, crate::specs::Make::entries_more, crate::specs::Make::entries_done))]
 fn entries(buf: &mut [u8], at: u32, n: u32, signature: u32, flags: u32)
     ensures { buf.new ≡ entries buf.old at signature flags n }
 {
-    let mut k: u32 = 0;
-    while k < n {
-        let next = std::num::wrapping_add_u32(signature, k + 1);
-        entry(buf, at, k, next, flags);
-        k += 1;
+    for k in 0..n {
+        entry(buf, at, k, signature.wrapping_add(k + 1), flags);
     }
 }
 
 // An update of `d` data bytes with a table of `n` entries for the signatures after `signature`: nothing where D or n is far too large.
+#[tactic(auto, using(crate::specs::Make::tabled_long, crate::specs::Make::tabled_many, crate::specs::Make::tabled_made))]
 pub fn tabled(buf: &mut [u8], signature: u32, flags: u32, d: u32, n: u32)
     ensures { buf.new ≡ tabled buf.old signature flags d n }
 {
-    if d > 65536 {
-        return;
-    }
-    if n > 1000 {
+    if d > 65536 || n > 1000 {
         return;
     }
     let at = 48 + d;

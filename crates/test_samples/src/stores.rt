@@ -5,6 +5,7 @@ ghost use Rattle.test_samples.specs.Stores.{four_blocks, eight_blocks};
 use crate::{bytes, make};
 
 // Four blocks of FFh, with P in block 1.
+#[tactic(auto, unfolding(crate::specs::Stores::four_blocks))]
 pub fn four_blocks(buf: &mut [u8])
     ensures { buf.new ≡ four_blocks buf.old }
 {
@@ -15,6 +16,7 @@ pub fn four_blocks(buf: &mut [u8])
 }
 
 // Eight blocks of FFh, with P in block 1 and an update of two blocks, 3,072 bytes, in blocks 3 and 4.
+#[tactic(auto, unfolding(crate::specs::Stores::eight_blocks))]
 pub fn eight_blocks(buf: &mut [u8])
     ensures { buf.new ≡ eight_blocks buf.old }
 {
