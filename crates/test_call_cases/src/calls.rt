@@ -13,11 +13,9 @@ fn call<P: Print>(
     task: u32,
     block: u32,
 ) -> io::Result<()> {
-    let mut space = [0u8; 65536];
-    let store: &mut [u8] = &mut space;
+    let store: &mut [u8] = &mut [0u8; 65536];
     stores::four_blocks(store);
-    let mut second = [0u8; 65536];
-    let candidate: &mut [u8] = &mut second;
+    let candidate: &mut [u8] = &mut [0u8; 65536];
     make::p(candidate, 8, 0xF8E7E008);
     let mut destination = [0u8; 2048];
     let mut answer = [0xA5A5A5A5u32; 16];

@@ -54,8 +54,7 @@ fn put_update(
 
 // 32 blocks, with P in block 1 and an update of two blocks in the last two.
 fn edges<P: Print>(out: &P) -> io::Result<()> {
-    let mut space = [0u8; 65536];
-    let store: &mut [u8] = &mut space;
+    let store: &mut [u8] = &mut [0u8; 65536];
     bytes::fill(store, 0, 32768, 255);
     bytes::fill(store, 32768, 32768, 255);
     stores::four_blocks(store);
@@ -168,11 +167,9 @@ fn carried<P: Print>(
 
 // Four blocks with P in block 1: P with revision 8, then an update of two blocks that shares nothing.
 fn in_four_blocks<P: Print>(out: &P) -> io::Result<()> {
-    let mut space = [0u8; 65536];
-    let store: &mut [u8] = &mut space;
+    let store: &mut [u8] = &mut [0u8; 65536];
     stores::four_blocks(store);
-    let mut second = [0u8; 65536];
-    let candidate: &mut [u8] = &mut second;
+    let candidate: &mut [u8] = &mut [0u8; 65536];
     make::p(candidate, 8, 0xF8E7E008);
     carried(
         out,
@@ -197,16 +194,14 @@ fn in_four_blocks<P: Print>(out: &P) -> io::Result<()> {
 
 // Seven blocks: sharing, (650h, 1); needed; stale, of two; unused; sharing, (650h, 2), of two. Four blocks are wanted.
 fn over_many<P: Print>(out: &P) -> io::Result<()> {
-    let mut space = [0u8; 65536];
-    let store: &mut [u8] = &mut space;
+    let store: &mut [u8] = &mut [0u8; 65536];
     bytes::fill(store, 0, 14336, 255);
     put_update(store, 0, 3, 0x650, 2, 2000, 2048);
     put_update(store, 2048, 5, 0x651, 1, 2000, 2048);
     put_update(store, 4096, 7, 0x683, 0x81, 3024, 3072);
     put_update(store, 10240, 4, 0x650, 4, 4048, 4096);
     indexes::made(out, b"index of seven blocks: ", bytes::first(store, 14336))?;
-    let mut second = [0u8; 65536];
-    let candidate: &mut [u8] = &mut second;
+    let candidate: &mut [u8] = &mut [0u8; 65536];
     make::plain(candidate, 9, 0x650, 6, 7120, 7168);
     carried(
         out,

@@ -16,8 +16,7 @@ fn read<P: Print>(
     block: u32,
     n: usize,
 ) -> io::Result<()> {
-    let mut space = [0u8; 65536];
-    let destination: &mut [u8] = &mut space;
+    let destination: &mut [u8] = &mut [0u8; 65536];
     let mut answer = [0xA5A5A5A5u32; 16];
     if n <= destination.len() {
         let ax = board::update_store_read_indexed(
@@ -188,8 +187,7 @@ fn bad_store<P: Print>(out: &P, own: &Index, store: &[u8]) -> io::Result<()> {
 }
 
 pub fn run<P: Print>(out: &P) -> io::Result<()> {
-    let mut space = [0u8; 65536];
-    let store: &mut [u8] = &mut space;
+    let store: &mut [u8] = &mut [0u8; 65536];
     let mut other = [[0u32; MOST_BLOCKS]; COLUMNS];
     let mut own = [[0u32; MOST_BLOCKS]; COLUMNS];
     let mut answer = [0u32; 16];

@@ -17,8 +17,7 @@ pub fn made<P: Print>(out: &P, label: &[u8], store: &[u8]) -> io::Result<()> {
 
 // Four blocks with P in block 1, then eight with an update of two blocks as well.
 pub fn run<P: Print>(out: &P) -> io::Result<()> {
-    let mut space = [0u8; 65536];
-    let store: &mut [u8] = &mut space;
+    let store: &mut [u8] = &mut [0u8; 65536];
     stores::four_blocks(store);
     made(out, b"index of four blocks: ", bytes::first(store, 8192))?;
     made(

@@ -80,8 +80,7 @@ fn write_tabled<P: Print>(
     d: u32,
     t: u32,
 ) -> io::Result<()> {
-    let mut space = [0u8; 65536];
-    let candidate: &mut [u8] = &mut space;
+    let candidate: &mut [u8] = &mut [0u8; 65536];
     make::tabled(candidate, 0x650, 2, d, 1);
     empty(store);
     written(out, label, store, bytes::first(candidate, t as usize))
@@ -89,11 +88,9 @@ fn write_tabled<P: Print>(
 
 // One that is stored in blocks of `taken` bytes.
 fn good<P: Print>(out: &P, label: &[u8], d: u32, t: u32, taken: usize) -> io::Result<()> {
-    let mut space = [0u8; 65536];
-    let store: &mut [u8] = &mut space;
+    let store: &mut [u8] = &mut [0u8; 65536];
     write_tabled(out, label, store, d, t)?;
-    let mut second = [0u8; 65536];
-    let destination: &mut [u8] = &mut second;
+    let destination: &mut [u8] = &mut [0u8; 65536];
     call(out, b"  read: ", 3, store, destination)?;
     read_back(out, destination, t as usize, taken)?;
     bytes::fill(store, t as usize, 1, 0);
@@ -102,11 +99,9 @@ fn good<P: Print>(out: &P, label: &[u8], d: u32, t: u32, taken: usize) -> io::Re
 
 // One that is refused: block 0 is unused as before.
 fn refused<P: Print>(out: &P, label: &[u8], d: u32, t: u32) -> io::Result<()> {
-    let mut space = [0u8; 65536];
-    let store: &mut [u8] = &mut space;
+    let store: &mut [u8] = &mut [0u8; 65536];
     write_tabled(out, label, store, d, t)?;
-    let mut second = [0u8; 65536];
-    let destination: &mut [u8] = &mut second;
+    let destination: &mut [u8] = &mut [0u8; 65536];
     call(out, b"  read: ", 3, store, destination)?;
     test_output::dword(out, b"  sums to ", bytes_dwords::sum(destination))?;
     test_output::text(out, b"\n")

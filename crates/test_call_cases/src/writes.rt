@@ -51,11 +51,9 @@ fn write_p<P: Print>(
     signature: u32,
     platform: u8,
 ) -> io::Result<()> {
-    let mut space = [0u8; 65536];
-    let store: &mut [u8] = &mut space;
+    let store: &mut [u8] = &mut [0u8; 65536];
     stores::four_blocks(store);
-    let mut second = [0u8; 65536];
-    let candidate: &mut [u8] = &mut second;
+    let candidate: &mut [u8] = &mut [0u8; 65536];
     make::p(candidate, revision, checksum);
     let signatures = [signature];
     let platforms = [platform];
@@ -75,12 +73,10 @@ fn write_p<P: Print>(
 
 // Stored E covers A, (651h, 1) and B, (652h, 1); the candidate covers A only. `n` of A, B are listed.
 fn write_over_e<P: Print>(out: &P, label: &[u8], n: usize) -> io::Result<()> {
-    let mut space = [0u8; 65536];
-    let store: &mut [u8] = &mut space;
+    let store: &mut [u8] = &mut [0u8; 65536];
     make::tabled(store, 0x650, 2, 1956, 2);
     bytes::fill(store, 2048, 2048, 255);
-    let mut second = [0u8; 65536];
-    let candidate: &mut [u8] = &mut second;
+    let candidate: &mut [u8] = &mut [0u8; 65536];
     make::plain(candidate, 8, 0x651, 2, 2000, 2048);
     let signatures = [0x651u32, 0x652];
     let platforms = [1u8, 1];

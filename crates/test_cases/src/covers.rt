@@ -6,16 +6,14 @@ use test_samples::{bytes, make};
 
 // Coverage by P.
 fn p_covers<P: Print>(out: &P, label: &[u8], signature: u32, platform: u32) -> io::Result<()> {
-    let mut space = [0u8; 65536];
-    let buf: &mut [u8] = &mut space;
+    let buf: &mut [u8] = &mut [0u8; 65536];
     make::p(buf, 7, 0xF8E7E009);
     lines::covers(out, label, buf, signature, platform)
 }
 
 // Coverage by an update of signature 650 with given flags.
 fn flags_cover<P: Print>(out: &P, label: &[u8], flags: u32, platform: u32) -> io::Result<()> {
-    let mut space = [0u8; 65536];
-    let buf: &mut [u8] = &mut space;
+    let buf: &mut [u8] = &mut [0u8; 65536];
     make::plain(buf, 7, 0x650, flags, 976, 1024);
     lines::covers(out, label, buf, 0x650, platform)
 }
@@ -28,8 +26,7 @@ fn entries_cover<P: Print>(
     signature: u32,
     platform: u32,
 ) -> io::Result<()> {
-    let mut space = [0u8; 65536];
-    let buf: &mut [u8] = &mut space;
+    let buf: &mut [u8] = &mut [0u8; 65536];
     make::tabled(buf, 0x650, 6, 1212, 64);
     lines::covers(out, label, bytes::first(buf, n), signature, platform)
 }

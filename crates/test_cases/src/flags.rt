@@ -5,8 +5,7 @@ use std::io::Print;
 use test_samples::make;
 
 fn flags_name<P: Print>(out: &P, label: &[u8], flags: u32) -> io::Result<()> {
-    let mut space = [0u8; 65536];
-    let buf: &mut [u8] = &mut space;
+    let buf: &mut [u8] = &mut [0u8; 65536];
     make::plain(buf, 7, 0x650, flags, 976, 1024);
     lines::platforms(out, label, buf)
 }

@@ -1,7 +1,6 @@
 // A line of output for each kind of answer.
 use call_answers::answer::Answer;
 use call_answers::choice::LoadChoice;
-use report_text::Report;
 use std::io;
 use std::io::Print;
 use test_samples::bytes;
@@ -10,8 +9,8 @@ use update_verdict::BadUpdate;
 // The verdict on the bytes, by its code or with its four numbers.
 pub fn verdict<P: Print>(out: &P, label: &[u8], s: &[u8]) -> io::Result<()> {
     test_output::text(out, label)?;
-    let v = update_verdict::check_update(s);
-    match v {
+
+    match update_verdict::check_update(s) {
         Ok(m) => {
             test_output::number(out, b": good, T ", m.total)?;
             test_output::number(out, b", data ", m.data)?;
@@ -73,10 +72,6 @@ pub fn view<P: Print>(out: &P, label: &[u8], s: &[u8]) -> io::Result<()> {
     test_output::text(out, b"\n")
 }
 
-fn wide(x: u8) -> u32 {
-    x as u32
-}
-
 // An answer by its codes, or with its numbers.
 pub fn reply<P: Print>(out: &P, label: &[u8], answer: Answer) -> io::Result<()> {
     test_output::text(out, label)?;
@@ -98,8 +93,8 @@ pub fn reply<P: Print>(out: &P, label: &[u8], answer: Answer) -> io::Result<()> 
         Answer::Control(a) => test_output::number(out, b": control, status ", a.status)?,
         Answer::Read(a) => test_output::number(out, b": read, blocks ", a.blocks)?,
         Answer::Refused(a) => {
-            test_output::code(out, b": refused, AH ", wide(a.ah))?;
-            test_output::code(out, b", AL ", wide(a.al))?;
+            test_output::code(out, b": refused, AH ", u32::from(a.ah))?;
+            test_output::code(out, b", AL ", u32::from(a.al))?;
             test_output::code(out, b", status ", a.status)?;
         }
     }
@@ -127,8 +122,8 @@ pub fn load<P: Print>(out: &P, label: &[u8], choice: LoadChoice, data: &[u8]) ->
     test_output::text(out, label)?;
     match choice {
         Err(refusal) => {
-            test_output::code(out, b": refused, AH ", wide(refusal.ah()))?;
-            test_output::code(out, b", AL ", wide(refusal.al()))?;
+            test_output::code(out, b": refused, AH ", u32::from(refusal.ah()))?;
+            test_output::code(out, b", AL ", u32::from(refusal.al()))?;
         }
         Ok(None) => test_output::text(out, b": nothing")?,
         Ok(Some(chosen)) => {
@@ -142,11 +137,9 @@ pub fn load<P: Print>(out: &P, label: &[u8], choice: LoadChoice, data: &[u8]) ->
 
 // The catalogue of a store.
 pub fn catalogue<P: Print>(out: &P, s: &[u8]) -> io::Result<()> {
-    let mut space = [0u8; 4096];
-    let text: &mut [u8] = &mut space;
-    let answer = report_catalogue::catalogue(s, text);
-    match answer {
-        Report::Text { length } => test_output::text(out, bytes::first(text, length as usize)),
-        Report::Short { length: _ } => test_output::text(out, b"short\n"),
+    let text: &mut [u8] = &mut [0u8; 4096];
+    match report_catalogue::catalogue(s, text) {
+        Ok(length) => test_output::text(out, bytes::first(text, length as usize)),
+        Err(_) => test_output::text(out, b"short\n"),
     }
 }

@@ -6,10 +6,8 @@ use test_samples::make;
 
 // Whether P shares a processor with an update without a table.
 fn p_shares<P: Print>(out: &P, label: &[u8], signature: u32, flags: u32) -> io::Result<()> {
-    let mut space = [0u8; 65536];
-    let buf: &mut [u8] = &mut space;
-    let mut second = [0u8; 65536];
-    let other: &mut [u8] = &mut second;
+    let buf: &mut [u8] = &mut [0u8; 65536];
+    let other: &mut [u8] = &mut [0u8; 65536];
     make::p(buf, 7, 0xF8E7E009);
     make::plain(other, 7, signature, flags, 976, 1024);
     lines::shares(out, label, buf, other)
@@ -25,10 +23,8 @@ fn entries_share<P: Print>(
     n: u32,
     flags: u32,
 ) -> io::Result<()> {
-    let mut space = [0u8; 65536];
-    let buf: &mut [u8] = &mut space;
-    let mut more = [0u8; 65536];
-    let other: &mut [u8] = &mut more;
+    let buf: &mut [u8] = &mut [0u8; 65536];
+    let other: &mut [u8] = &mut [0u8; 65536];
     make::tabled(buf, first, 6, 1980 - 12 * (m % 65), m % 65);
     make::tabled(other, second, flags, 1980 - 12 * (n % 65), n % 65);
     lines::shares(out, label, buf, other)

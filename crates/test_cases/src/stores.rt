@@ -8,16 +8,14 @@ use test_samples::{bytes, make};
 
 // The catalogue of four blocks with P in block 1, whole.
 fn catalogue<P: Print>(out: &P) -> io::Result<()> {
-    let mut space = [0u8; 65536];
-    let buf: &mut [u8] = &mut space;
+    let buf: &mut [u8] = &mut [0u8; 65536];
     test_samples::stores::four_blocks(buf);
     lines::catalogue(out, bytes::first(buf, 8192))
 }
 
 // The catalogue of four blocks with two updates that end off the kilobyte: 2,044 bytes in block 0, 2,052 in blocks 1 and 2.
 fn catalogue_off_the_kilobyte<P: Print>(out: &P) -> io::Result<()> {
-    let mut space = [0u8; 65536];
-    let buf: &mut [u8] = &mut space;
+    let buf: &mut [u8] = &mut [0u8; 65536];
     bytes::fill(buf, 2048, 6144, 255);
     make::tabled(buf, 0x650, 6, 1964, 1);
     bytes::fill(buf, 2044, 4, 255);
@@ -37,8 +35,7 @@ fn input_space() -> [u8; 65537]
 
 // The catalogue of an input of `n` bytes FFh that arrives in pieces of 777 bytes.
 fn in_pieces<P: Print>(out: &P, label: &[u8], n: u32) -> io::Result<()> {
-    let mut space = input_space();
-    let buffer: &mut [u8] = &mut space;
+    let buffer: &mut [u8] = &mut input_space();
     let piece = [255u8; 777];
     let mut have: usize = 0;
     for _ in 0..n / 777 {
@@ -57,8 +54,7 @@ fn inputs<P: Print>(out: &P) -> io::Result<()> {
 }
 
 fn presence<P: Print>(out: &P, label: &[u8], n: usize) -> io::Result<()> {
-    let mut space = [0u8; 65536];
-    let buf: &mut [u8] = &mut space;
+    let buf: &mut [u8] = &mut [0u8; 65536];
     test_samples::stores::eight_blocks(buf);
     lines::reply(
         out,
@@ -69,8 +65,7 @@ fn presence<P: Print>(out: &P, label: &[u8], n: usize) -> io::Result<()> {
 
 // Presence of the eight blocks with one byte changed.
 fn damaged<P: Print>(out: &P, label: &[u8], at: usize, byte: u8) -> io::Result<()> {
-    let mut space = [0u8; 65536];
-    let buf: &mut [u8] = &mut space;
+    let buf: &mut [u8] = &mut [0u8; 65536];
     test_samples::stores::eight_blocks(buf);
     bytes::fill(buf, at, 1, byte);
     lines::reply(
@@ -82,8 +77,7 @@ fn damaged<P: Print>(out: &P, label: &[u8], at: usize, byte: u8) -> io::Result<(
 
 // Presence of four blocks with P in block 1 and a second P in block 3.
 fn two_of_p<P: Print>(out: &P, label: &[u8]) -> io::Result<()> {
-    let mut space = [0u8; 65536];
-    let buf: &mut [u8] = &mut space;
+    let buf: &mut [u8] = &mut [0u8; 65536];
     test_samples::stores::four_blocks(buf);
     bytes::fill(buf, 6144, 2048, 0);
     if 6144 <= buf.len() {
@@ -111,10 +105,8 @@ fn presences<P: Print>(out: &P) -> io::Result<()> {
 
 fn control<P: Print>(out: &P, label: &[u8], task: u32, loading: bool) -> io::Result<()> {
     let r = call_control::control(task, loading);
-    let on = r.loading;
-    let answer = r.answer;
-    lines::reply(out, label, answer)?;
-    lines::loading(out, on)
+    lines::reply(out, label, r.answer)?;
+    lines::loading(out, r.loading)
 }
 
 fn controls<P: Print>(out: &P) -> io::Result<()> {
@@ -128,11 +120,9 @@ fn controls<P: Print>(out: &P) -> io::Result<()> {
 
 // A read of a block of the eight into a destination of `n` bytes of a buffer of 8,192.
 fn read<P: Print>(out: &P, label: &[u8], block: u32, n: usize) -> io::Result<()> {
-    let mut space = [0u8; 65536];
-    let buf: &mut [u8] = &mut space;
+    let buf: &mut [u8] = &mut [0u8; 65536];
     test_samples::stores::eight_blocks(buf);
-    let mut second = [0u8; 65536];
-    let to: &mut [u8] = &mut second;
+    let to: &mut [u8] = &mut [0u8; 65536];
     if n <= to.len() {
         lines::reply(
             out,
@@ -165,8 +155,7 @@ fn load<P: Print>(
     signature: u32,
     platform: u32,
 ) -> io::Result<()> {
-    let mut space = [0u8; 65536];
-    let buf: &mut [u8] = &mut space;
+    let buf: &mut [u8] = &mut [0u8; 65536];
     test_samples::stores::eight_blocks(buf);
     let s = bytes::first(buf, n);
     lines::load(

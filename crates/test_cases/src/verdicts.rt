@@ -6,16 +6,14 @@ use test_samples::{bytes, make};
 
 // The first `n` bytes of P, with a revision and a checksum.
 fn p<P: Print>(out: &P, label: &[u8], revision: u32, checksum: u32, n: usize) -> io::Result<()> {
-    let mut space = [0u8; 65536];
-    let buf: &mut [u8] = &mut space;
+    let buf: &mut [u8] = &mut [0u8; 65536];
     make::p(buf, revision, checksum);
     lines::verdict(out, label, bytes::first(buf, n))
 }
 
 // P with one dword changed and its checksum made right.
 fn changed_p<P: Print>(out: &P, label: &[u8], at: usize, x: u32) -> io::Result<()> {
-    let mut space = [0u8; 65536];
-    let buf: &mut [u8] = &mut space;
+    let buf: &mut [u8] = &mut [0u8; 65536];
     make::p(buf, 7, 0);
     bytes::dword(buf, at, x);
     make::balance(buf, 16, 0, 2048);
@@ -24,24 +22,21 @@ fn changed_p<P: Print>(out: &P, label: &[u8], at: usize, x: u32) -> io::Result<(
 
 // `n` bytes with D and T as given, whose sum is right.
 fn sizes<P: Print>(out: &P, label: &[u8], d: u32, t: u32, n: usize) -> io::Result<()> {
-    let mut space = [0u8; 65536];
-    let buf: &mut [u8] = &mut space;
+    let buf: &mut [u8] = &mut [0u8; 65536];
     make::plain(buf, 7, 0x650, 6, d, t);
     lines::verdict(out, label, bytes::first(buf, n))
 }
 
 // `lent` bytes with D and a table of `n` entries, whose sums are right.
 fn table<P: Print>(out: &P, label: &[u8], d: u32, n: u32, lent: usize) -> io::Result<()> {
-    let mut space = [0u8; 65536];
-    let buf: &mut [u8] = &mut space;
+    let buf: &mut [u8] = &mut [0u8; 65536];
     make::tabled(buf, 0x650, 6, d, n);
     lines::verdict(out, label, bytes::first(buf, lent))
 }
 
 // The same with D 1,968 and one entry, a dword of the table at 2,016 changed, and the table's sum made right.
 fn changed_table<P: Print>(out: &P, label: &[u8], at: usize, x: u32) -> io::Result<()> {
-    let mut space = [0u8; 65536];
-    let buf: &mut [u8] = &mut space;
+    let buf: &mut [u8] = &mut [0u8; 65536];
     make::tabled(buf, 0x650, 6, 1968, 1);
     bytes::dword(buf, at, x);
     make::balance(buf, 2020, 2016, 2048);
@@ -50,14 +45,13 @@ fn changed_table<P: Print>(out: &P, label: &[u8], at: usize, x: u32) -> io::Resu
 
 // The same with a table that sums to 1, the header's sum made right, and with it the entry's.
 fn unsealed_table<P: Print>(out: &P, label: &[u8]) -> io::Result<()> {
-    let mut space = [0u8; 65536];
-    let buf: &mut [u8] = &mut space;
+    let buf: &mut [u8] = &mut [0u8; 65536];
     make::tabled(buf, 0x650, 6, 1968, 1);
     bytes::dword(buf, 2024, 2);
     let checksum = update_header::fields::checksum(buf);
-    bytes::dword(buf, 16, std::num::wrapping_sub_u32(checksum, 1));
+    bytes::dword(buf, 16, checksum.wrapping_sub(1));
     let entry = bytes_dwords::dword(buf, 2044);
-    bytes::dword(buf, 2044, std::num::wrapping_sub_u32(entry, 1));
+    bytes::dword(buf, 2044, entry.wrapping_sub(1));
     lines::verdict(out, label, bytes::first(buf, 2048))
 }
 

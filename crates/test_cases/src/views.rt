@@ -6,8 +6,7 @@ use test_samples::{bytes, make};
 
 // The first `n` bytes of P.
 fn p<P: Print>(out: &P, label: &[u8], n: usize) -> io::Result<()> {
-    let mut space = [0u8; 65536];
-    let buf: &mut [u8] = &mut space;
+    let buf: &mut [u8] = &mut [0u8; 65536];
     make::p(buf, 7, 0xF8E7E009);
     lines::view(out, label, bytes::first(buf, n))
 }
