@@ -1,3 +1,2 @@
--- The answer words of the load choice: definitions, then laws.
+-- The answer words of the load choice.
 pub mod LoadWords
-pub mod LoadWordLaws

@@ -54,6 +54,7 @@ pub struct Index {
 pub fn columns_of(x: Index) -> [[u32; MOST_BLOCKS]; COLUMNS]
     ensures { result ≡ columns_of x }
 {
+    // Tried without these variables: fields as an array's elements don't prove.
     let kinds = x.kinds;
     let starts = x.starts;
     let revisions = x.revisions;
@@ -65,15 +66,11 @@ pub fn columns_of(x: Index) -> [[u32; MOST_BLOCKS]; COLUMNS]
 pub fn index_in(columns: &[[u32; MOST_BLOCKS]; COLUMNS]) -> Index
     ensures { result ≡ index_in columns.now }
 {
-    let kinds = columns[KINDS];
-    let starts = columns[STARTS];
-    let revisions = columns[REVISIONS];
-    let sizes = columns[SIZES];
     Index {
-        kinds,
-        starts,
-        revisions,
-        sizes,
+        kinds: columns[KINDS],
+        starts: columns[STARTS],
+        revisions: columns[REVISIONS],
+        sizes: columns[SIZES],
     }
 }
 

@@ -53,7 +53,7 @@ fn update_lines(
     all
 }
 
-// Is the lent index that of the valid store whose directory `d` is?
+// Is the lent index that of the valid store whose directory `d` is? It is lent, since by value its arrays are copied.
 pub fn is_own(store: &[u8], d: &Directory, columns: &[[u32; MOST_BLOCKS]; COLUMNS]) -> bool
     requires { stored store.now ≡ Some d.now }
     ensures { result ≡ same_index (index_in columns.now) (index_of store.now) }
