@@ -1,15 +1,15 @@
 -- The cases of what stands at a block, as the code takes them.
 --   fitting      the cases of `fits`, as `search` takes them
---   slotting     the cases of `slot_of`, as `search` takes them
 --   good_dwords  a good update is whole dwords
+--   slotting     the cases of `slot_of`, as `search` takes them
 use Rattle.std.specs.Prelude.{ℕ, ◌*◌, ◌-◌, ◌%◌, ◌<◌, ◌≤◌, ◌≡◌, Bool, false, List, length, Ok, Err}
 use Rattle.std.proofs.Common.{sym, ◌∙◌, arith}
 use borrow.Author.Tests.{le-leb, lt-leb}
-use Rattle.laws.specs.Unless.{unless, checks}
+use Rattle.laws.specs.Unless.{unless, unless_pass, unless_stop}
 use Rattle.update_sizes.specs.Sizes.{blocks_of}
 use Rattle.update_header.specs.Inside.{inside}
 use Rattle.update_verdict.specs.Verdict.{Verdict, verdict}
-use Rattle.update_verdict.specs.VerdictLaws.{judged}
+use Rattle.update_verdict.specs.VerdictLaws.{judged, verdict_blocks}
 use Rattle.update_verdict.specs.declared.Measures.{Measures}
 use Rattle.update_verdict.specs.declared.BadUpdate.{BadUpdate}
 use Rattle.store_blocks.specs.Blocks.{filled}
@@ -39,11 +39,11 @@ module _ (s : List ℕ) (r v : Verdict) (e : r ≡ v) where
   unfolding update_slot
   slot_bad x h = rw (← e, h)
 
-pub ruleset slotting = (checks, slot_good, slot_bad)
-
 -- a good update is whole dwords; v is what a call answered
 pub good_dwords : (s : List ℕ) (v : Verdict) (m : Measures) → v ≡ verdict s → v ≡ Ok m → m.total % 4 ≡ 0
 good_dwords s v m e h =
     let g = judged s m.total m.data m.entries m.blocks (sym e ∙ h) in
     let z = (inside s g.sizes).sized in
     omega (arith, g.total, z.dwords, z.layout)
+
+pub ruleset slotting = (unless_pass, unless_stop, slot_good, slot_bad, good_dwords, verdict_blocks)

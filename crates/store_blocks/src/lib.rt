@@ -13,6 +13,7 @@ pub const MOST_BLOCKS: usize = 32;
 // Four bytes of FFh.
 const ALL_FF: u32 = 0xFFFF_FFFF;
 
+#[tactic(auto, unfolding(crate::specs::Blocks::is_ff))]
 fn is_ff(s: &[u8], i: usize, k: usize) -> bool
     requires { i + k < length s.now }
     ensures { result ≡ is_ff s.now i k }
@@ -28,53 +29,39 @@ pub fn filled(s: &[u8], i: usize, n: usize) -> bool
 {
     let dwords = (n / 4) as u32;
     let mut all: u32 = ALL_FF;
-    let mut k: u32 = 0;
-    while k < dwords {
-        all = all & bytes_dwords::dword_inside(s, i + 4 * k as usize);
-        k += 1;
+    for k in 0..dwords {
+        all &= bytes_dwords::dword_inside(s, i + 4 * k as usize);
     }
     all == ALL_FF
 }
 
 // Is the first block of the part unused? The first byte tells for all but an unused one.
+#[tactic(auto, using(crate::specs::FilledLaws::unused_no), unfolding(crate::specs::Blocks::unused))]
 pub fn unused(s: &[u8]) -> bool
     ensures { result ≡ unused s.now }
 {
-    if BLOCK <= s.len() {
-        if is_ff(s, 0, 0) {
-            filled(s, 0, BLOCK)
-        } else {
-            false
-        }
-    } else {
-        false
-    }
+    BLOCK <= s.len() && is_ff(s, 0, 0) && filled(s, 0, BLOCK)
 }
 
 // The store from block `b`'s first byte on; nothing where that is behind the end.
 pub fn from_block(s: &[u8], b: u32) -> &[u8]
     ensures { result.now ≡ from_block s.now b }
 {
-    let at = b as usize * BLOCK;
-    if at <= s.len() { &s[at..] } else { &s[..0] }
+    let at = usize::min(b as usize * BLOCK, s.len());
+    &s[at..]
 }
 
 // The same, by a first block of a directory.
 pub fn from_start(s: &[u8], start: u8) -> &[u8]
     ensures { result.now ≡ from_block s.now start }
 {
-    from_block(s, bytes_dwords::wide(start))
+    from_block(s, u32::from(start))
 }
 
 // 1 to 32 whole blocks.
+#[tactic(auto, unfolding(crate::specs::Blocks::length_ok))]
 pub fn length_ok(n: usize) -> bool
     ensures { result ≡ length_ok n }
 {
-    if n % BLOCK != 0 {
-        return false;
-    }
-    if n / BLOCK < 1 {
-        return false;
-    }
-    n / BLOCK <= MOST_BLOCKS
+    n % BLOCK == 0 && n / BLOCK >= 1 && n / BLOCK <= MOST_BLOCKS
 }

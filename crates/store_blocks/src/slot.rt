@@ -15,20 +15,18 @@ pub enum Slot {
 }
 
 // An update of `t` bytes in `k` blocks fits in the part, and the rest of its last block is FFh.
+#[tactic(auto, using(crate::proofs::SlotCases::fitting), unfolding(update_sizes::specs::Sizes::blocks_of))]
 fn fits(s: &[u8], t: u32, k: u32) -> bool
     requires { (k ≡ blocks_of t) × (t % 4 ≡ 0) }
     ensures { result ≡ fits s.now t }
 {
     let size = t as usize;
     let end = k as usize * BLOCK;
-    if end <= s.len() {
-        filled(s, size, end - size)
-    } else {
-        false
-    }
+    end <= s.len() && filled(s, size, end - size)
 }
 
 // What stands at the first byte of the part, which is the store from a block on.
+#[tactic(auto, using(crate::proofs::SlotCases::slotting), unfolding(crate::specs::Slot::slot_of))]
 pub fn read_slot(part: &[u8]) -> Slot
     ensures { result ≡ slot_of part.now }
 {

@@ -16,16 +16,14 @@ pub enum Kind {
 }
 
 // Is block `b` one of the `size` blocks from `start` on? The end doesn't wrap.
+#[tactic(auto, unfolding(laws::specs::Span::spans))]
 pub fn owns(start: u32, size: u32, b: u32) -> bool
     ensures { result ≡ spans start size b }
 {
-    if start <= b {
-        (b as usize) < start as usize + size as usize
-    } else {
-        false
-    }
+    start <= b && (b as usize) < start as usize + size as usize
 }
 
+#[tactic(auto, unfolding(crate::specs::Kind::kind_if))]
 fn kind_if(start: u32, size: u32, b: u32) -> Kind
     ensures { result ≡ kind_if start size b }
 {
@@ -37,18 +35,17 @@ fn kind_if(start: u32, size: u32, b: u32) -> Kind
 }
 
 // The kind of block `b` of the store whose directory `d` is.
+#[tactic(auto, using(crate::specs::KindScan::finding))]
 pub fn block_kind(d: Directory, b: u32) -> Kind
     requires { d.count ≤ 32 }
     ensures { result ≡ kind_in d b }
 {
-    let mut i: usize = 0;
-    while i < d.count {
-        let start = bytes_dwords::wide(d.starts[i]);
-        let size = bytes_dwords::wide(d.sizes[i]);
+    for i in 0..d.count {
+        let start = u32::from(d.starts[i]);
+        let size = u32::from(d.sizes[i]);
         if owns(start, size, b) {
             return kind_if(start, size, b);
         }
-        i += 1;
     }
     Kind::Unused
 }

@@ -11,6 +11,7 @@ ghost use Rattle.store_directory.specs.Scan.{stored};
 
 use store_blocks::MOST_BLOCKS;
 
+// Arrays of 32 with a count, since the library takes no memory of its own; not one array of structs, since each is lent as it stands.
 #[derive(Clone, Copy)]
 pub struct Directory {
     // how many updates it holds
@@ -28,7 +29,7 @@ pub fn read_store(s: &[u8]) -> Option<Directory>
         return None;
     }
     let d = scan::scan(s, s.len() / store_blocks::BLOCK)?;
-    if clash::clash(s, d.starts, d.count) {
+    if clash::clash(s, &d) {
         return None;
     }
     Some(d)

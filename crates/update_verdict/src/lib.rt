@@ -27,6 +27,7 @@ pub enum BadUpdate {
 pub type Verdict = Result<Measures, BadUpdate>;
 
 // Checks 2 to 4 of the write, in their order. Bytes behind T are ignored.
+#[tactic(auto, using(crate::specs::VerdictLaws::judging), unfolding(crate::specs::Verdict::verdict))]
 pub fn check_update(part: &[u8]) -> Verdict
     ensures { result ≡ verdict part.now }
 {

@@ -9,18 +9,21 @@ ghost use Rattle.update_header.specs.Inside.{Inside};
 use update_header::fields;
 use update_sizes::{ENTRY, HEADER, TABLE_HEAD};
 
+#[tactic(auto, unfolding(crate::specs::Sums::sum_of))]
 fn sum_of(signature: u32, flags: u32, checksum: u32) -> u32
     ensures { result ≡ sum_of signature flags checksum }
 {
-    std::num::wrapping_add_u32(std::num::wrapping_add_u32(signature, flags), checksum)
+    signature.wrapping_add(flags).wrapping_add(checksum)
 }
 
+#[tactic(auto, unfolding(crate::specs::Sums::header_sum))]
 fn header_sum(s: &[u8]) -> u32
     ensures { result ≡ header_sum s.now }
 {
     sum_of(fields::signature(s), fields::flags(s), fields::checksum(s))
 }
 
+#[tactic(auto, unfolding(crate::specs::Sums::entry_ok, update_sizes::specs::Sizes::entry_offset))]
 fn entry_ok(s: &[u8], d: u32, want: u32, k: u32) -> bool
     requires { entry_offset d k + 12 ≤ length s.now }
     ensures { result ≡ entry_ok s.now d want k }
@@ -33,15 +36,13 @@ fn entry_ok(s: &[u8], d: u32, want: u32, k: u32) -> bool
     ) == want
 }
 
+#[tactic(auto, using(laws::specs::Loops::each), unfolding(update_sizes::specs::Sizes::entry_offset))]
 fn entries_ok(s: &[u8], d: u32, n: u32, want: u32) -> bool
     requires { 48 + d + 20 * min 1 n + 12 * n ≤ length s.now }
     ensures { result ≡ all_below n (entry_ok s.now d want) }
 {
-    let mut k: u32 = 0;
-    while k < n {
-        if entry_ok(s, d, want, k) {
-            k += 1;
-        } else {
+    for k in 0..n {
+        if !entry_ok(s, d, want, k) {
             return false;
         }
     }
@@ -49,6 +50,7 @@ fn entries_ok(s: &[u8], d: u32, n: u32, want: u32) -> bool
 }
 
 // `d`, `t` and `n` are the sizes and the number of entries. The bytes before the table and the table are summed once each.
+#[tactic(auto, using(crate::specs::SumLaws::summing))]
 pub fn sums_ok(s: &[u8], d: u32, t: u32, n: u32) -> bool
     requires { Inside s.now × (d ≡ data_size s.now) × (t ≡ total_size s.now) × (n ≡ entry_count s.now) }
     ensures { result ≡ sums_ok s.now }
@@ -56,12 +58,6 @@ pub fn sums_ok(s: &[u8], d: u32, t: u32, n: u32) -> bool
     let end = t as usize;
     let begin = HEADER + d as usize;
     let table = bytes_dwords::sum(&s[begin..end]);
-    let all = std::num::wrapping_add_u32(bytes_dwords::sum(&s[..begin]), table);
-    if all != 0 {
-        return false;
-    }
-    if table != 0 {
-        return false;
-    }
-    entries_ok(s, d, n, header_sum(s))
+    let all = bytes_dwords::sum(&s[..begin]).wrapping_add(table);
+    all == 0 && table == 0 && entries_ok(s, d, n, header_sum(s))
 }

@@ -96,6 +96,7 @@ pub fn data<'a>(v: UpdateView<'a>) -> &'a [u8]
 }
 
 // All but the data, by value, of the update that begins the slice.
+#[tactic(auto, using(crate::proofs::ViewLaws::holds_update))]
 pub fn summary(bytes: &[u8]) -> Summary
     ensures { result ≡ summary_of bytes.now }
 {

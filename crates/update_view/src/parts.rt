@@ -8,6 +8,7 @@ use update_header::data::data_part;
 // The numbers that a view gives, by value.
 #[derive(Clone, Copy)]
 pub struct Summary {
+    // a flag, not an Option: the public `summary` gives its numbers of any bytes, and can't fail
     pub ok: bool,
     pub header_version: u32,
     pub revision: u32,
@@ -21,6 +22,7 @@ pub struct Summary {
 }
 
 // The bytes of the update that begins the slice; none where there is none.
+#[tactic(auto, using(crate::proofs::ViewLaws::viewing))]
 pub fn front(s: &[u8]) -> &[u8]
     ensures { result.now ≡ viewed s.now }
 {
