@@ -1,19 +1,36 @@
--- The size rule with a table and without one, and what right sizes say, as inequalities.
+-- The size rule at each of its tests, and what right sizes say, as inequalities.
+--   odd_data .. too_many    what the rule refuses
 --   tabled, plain     the rule with a table and without one
 --   sizes_sized       the rule says it
 --   sizes_alike       the count field matters only where a table fits
-use Rattle.std.specs.Prelude.{ℕ, ◌+◌, ◌*◌, ◌%◌, ◌≤◌, ◌≡◌, Bool, cond, ◌&&◌, ◌||◌}
+use Rattle.std.specs.Prelude.{ℕ, ◌+◌, ◌*◌, ◌%◌, ◌<◌, ◌≤◌, ◌≡◌, Bool, cond, ◌&&◌, ◌||◌}
 use Rattle.std.proofs.Math.Path.{refl}
 use Rattle.std.proofs.Math.Bool.{true, false, and-false}
 use Rattle.std.proofs.Common.{arith}
 use Rattle.std.proofs.Math.Dec.{leb, eqb}
-use borrow.Author.Tests.{leb-true, eqb-true, eq-eqb, ne_eqb, le-leb}
+use borrow.Author.Tests.{leb-true, eqb-true, eq-eqb, ne_eqb, le-leb, lt-leb}
 use Rattle.laws.specs.Bools.{and_parts}
 use Rattle.update_sizes.specs.Sizes.{plain_ok, tabled_ok, sizes_ok, entries_of}
 use Rattle.update_sizes.specs.SizeLaws.{Sized}
 
--- the rule with a table, and without one
+-- the rule at each of its tests
 module _ (d t n : ℕ) where
+  pub odd_data : (d % 4 ≡ 0 → ⊥) → false ≡ sizes_ok d t n
+  unfolding sizes_ok
+  odd_data h = rw (ne_eqb (d % 4) 0 h)
+
+  pub too_long : 32768 < t → false ≡ sizes_ok d t n
+  unfolding sizes_ok
+  too_long l = rw (lt-leb t 32768 l, and-false (eqb (d % 4) 0))
+
+  pub no_entries : (t ≡ 48 + d → ⊥) → n < 1 → false ≡ sizes_ok d t n
+  unfolding sizes_ok
+  no_entries h l = rw (ne_eqb t (48 + d) h, lt-leb 1 n l, and-false (eqb (d % 4) 0 && leb t 32768))
+
+  pub too_many : (t ≡ 48 + d → ⊥) → 64 < n → false ≡ sizes_ok d t n
+  unfolding sizes_ok
+  too_many h l = rw (ne_eqb t (48 + d) h, lt-leb n 64 l, and-false (leb 1 n), and-false (eqb (d % 4) 0 && leb t 32768))
+
   -- D is a multiple of 4, and then T with a table is one
   pub tabled : d % 4 ≡ 0 → t ≤ 32768 → (t ≡ 48 + d → ⊥) → 1 ≤ n → n ≤ 64 → eqb t (48 + d + 20 + 12 * n) ≡ sizes_ok d t n
   unfolding sizes_ok

@@ -1,4 +1,4 @@
--- What right sizes say, as inequalities.
+-- The size rule at each of its tests, and what right sizes say, as inequalities.
 --   Sized             what right D and T say, with n entries
 use Rattle.std.specs.Prelude.{ℕ, ◌+◌, ◌*◌, ◌%◌, ◌≤◌, min, ◌≡◌}
 

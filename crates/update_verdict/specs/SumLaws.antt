@@ -1,4 +1,5 @@
 -- Laws of the sums, as the code takes them.
+--   sum_three      signature + flags + checksum, added one by one
 --   all_split      the T bytes are those before the table and the table, so one sum of each serves both rules
 --   table_length   the table has 20 + 12 n bytes, or none
 --   summing        the verdict on the sums, a return at each test, as `search` takes it
@@ -9,8 +10,12 @@ use Rattle.laws.specs.Tests.{and_stop, and_next}
 use Rattle.bytes_dwords.specs.Sum.{dword_sum}
 use Rattle.bytes_dwords.proofs.DwordSumLaws.{sum_append}
 use Rattle.update_header.specs.Fields.{data_size, total_size, entry_count}
-use Rattle.update_verdict.specs.Sums.{header_sum, entry_ok, table, sums_ok}
+use Rattle.update_verdict.specs.Sums.{sum_of, header_sum, entry_ok, table, sums_ok}
 use Rattle.update_header.specs.Inside.{Inside}
+
+pub sum_three : (signature flags checksum x r : ℕ) → x ≡ (signature + flags) % 2 ^ 32 → r ≡ (x + checksum) % 2 ^ 32 → r ≡ sum_of signature flags checksum
+unfolding sum_of
+sum_three signature flags checksum x r e f = omega arith
 
 pub all_split : (s : List ℕ) → Inside s → dword_sum (take (total_size s) s) ≡ (dword_sum (take (48 + data_size s) s) + dword_sum (table s)) % 2 ^ 32
 unfolding table
