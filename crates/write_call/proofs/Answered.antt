@@ -5,7 +5,7 @@
 --   answer_blocks, answer_bytes    its emptied blocks and its bytes are an outcome's
 --   full_none, none_full        the answer is a full store's exactly where no outcome is legal
 --   accepts_back, back_accepts  else it accepts exactly if the revision is read back
-use Rattle.std.specs.Prelude.{ℕ, ◌+◌, ◌≤◌, ◌≡◌, Bool, true, false, not, List, eqb}
+use Rattle.std.specs.Prelude.{ℕ, ◌+◌, ◌≤◌, ◌≡◌, Bool, true, false, not, List, Ok, Err, eqb}
 use Rattle.std.proofs.Math.Path.{refl}
 use Rattle.std.proofs.Common.{ap, ◌∙◌, arith, eqb-true, eq-eqb}
 use Rattle.laws.specs.Orders.{impossible}
@@ -24,14 +24,15 @@ use Rattle.write_placement.specs.Choose.{choose}
 use Rattle.write_outcome.specs.Legal.{Legal}
 use Rattle.write_outcome.specs.OutcomeBytes.{outcome_bytes}
 use Rattle.write_outcome.specs.EmptiedBlocks.{emptied_blocks}
-use Rattle.call_answers.specs.Codes.{success, storage_full, security_failure, none, sharing_needed, no_run}
-use Rattle.call_answers.specs.Answers.{refusal, ah_of}
+use Rattle.call_answers.specs.Codes.{success, storage_full, none}
+use Rattle.call_answers.specs.Answers.{ah_of}
+use Rattle.call_answers.specs.Refusals.{refused}
+use Rattle.call_answers.specs.declared.refusal.Refusal.{Refusal}
+use Rattle.call_answers.specs.declared.refusal.Refusal.TheVariants.{SharingNeeded, NoRun, SecurityFailure}
 use Rattle.call_answers.specs.declared.answer.Written.{Written as WrittenNumbers}
 use Rattle.call_answers.specs.declared.answer.Answer.TheVariants.{Written}
 use Rattle.write_plan.specs.CandidateMarks.{stored_updates}
-use Rattle.write_plan.specs.Plan.{placed}
-use Rattle.write_plan.specs.declared.Plan.{Plan}
-use Rattle.write_plan.specs.declared.Plan.TheVariants.{Run, Refuse}
+use Rattle.write_plan.specs.Plan.{Plan, run, placed}
 use Rattle.write_call.specs.Write.{good_plan, judged_plan, write_plan, written, answered, write_answer, emptied_at, bytes_after, write_bytes}
 use Rattle.write_call.specs.Demand.{Passes}
 use Rattle.write_call.specs.Planned.{plan_run}
@@ -45,20 +46,20 @@ numbers old cand start emptied =
 
 -- an answer with a start and a count: the plan is that run, check 9 passed, and the emptied blocks are those of that start
 answered_run : (old cand : List ℕ) (back : ℕ) (p : Plan) (a : WrittenNumbers) → answered old cand back p ≡ Written a
-    → (p ≡ Run a.start a.emptied) × (eqb back (revision cand) ≡ true) × (a.emptied_blocks ≡ emptied_blocks old (emptied_at old cand a.start))
+    → (p ≡ run a.start a.emptied) × (eqb back (revision cand) ≡ true) × (a.emptied_blocks ≡ emptied_blocks old (emptied_at old cand a.start))
 unfolding answered unless
-answered_run old cand back (Run start emptied) a e = go (eqb back (revision cand)) refl e
+answered_run old cand back (Ok r) a e = go (eqb back (revision cand)) refl e
   where
-    go : (t : Bool) → eqb back (revision cand) ≡ t → unless t (refusal security_failure none) (Written (numbers old cand start emptied)) ≡ Written a
-        → (Run start emptied ≡ Run a.start a.emptied) × (eqb back (revision cand) ≡ true)
+    go : (t : Bool) → eqb back (revision cand) ≡ t → unless t (refused SecurityFailure) (Written (numbers old cand r.start r.emptied)) ≡ Written a
+        → (run r.start r.emptied ≡ run a.start a.emptied) × (eqb back (revision cand) ≡ true)
         × (a.emptied_blocks ≡ emptied_blocks old (emptied_at old cand a.start))
     go true q f =
-        let g : numbers old cand start emptied ≡ a = cc in
-        (ap (λ (x : WrittenNumbers). Run x.start x.emptied) g, q, rw (← g))
+        let g : numbers old cand r.start r.emptied ≡ a = cc in
+        (ap (λ (x : WrittenNumbers). run x.start x.emptied) g, q, rw (← g))
     go false q f = absurd (impossible (cc))
-answered_run old cand back (Refuse ah al) a e = absurd (impossible (cc))
+answered_run old cand back (Err r) a e = absurd (impossible (cc))
 
-back_not_full : (t : Bool) (start emptied blocks : ℕ) → ah_of (unless t (refusal security_failure none) (written start emptied blocks)) ≡ storage_full → ⊥
+back_not_full : (t : Bool) (start emptied blocks : ℕ) → ah_of (unless t (refused SecurityFailure) (written start emptied blocks)) ≡ storage_full → ⊥
 unfolding unless
 back_not_full true start emptied blocks e = omega arith
 back_not_full false start emptied blocks e = omega arith
@@ -68,17 +69,17 @@ module _ (old : List ℕ) (list : ProcessorList) (cand : List ℕ) where
   h = stored_updates old list cand
 
   module _ (back : ℕ) where
-    pub answer_full : (al : ℕ) → write_plan old list cand ≡ Refuse storage_full al → write_answer old list cand back ≡ refusal storage_full al
+    pub answer_full : (r : Refusal) → write_plan old list cand ≡ Err r → write_answer old list cand back ≡ refused r
     unfolding write_answer answered
-    answer_full al e = rw e
+    answer_full r e = rw e
 
-    pub answer_back : (start emptied : ℕ) → write_plan old list cand ≡ Run start emptied
-        → write_answer old list cand back ≡ unless (eqb back (revision cand)) (refusal security_failure none) (Written (numbers old cand start emptied))
+    pub answer_back : (start emptied : ℕ) → write_plan old list cand ≡ run start emptied
+        → write_answer old list cand back ≡ unless (eqb back (revision cand)) (refused SecurityFailure) (Written (numbers old cand start emptied))
     unfolding write_answer answered
     answer_back start emptied e = rw e
 
     module _ (a : WrittenNumbers) (e : write_answer old list cand back ≡ Written a) where
-      pub answer_plan : write_plan old list cand ≡ Run a.start a.emptied
+      pub answer_plan : write_plan old list cand ≡ run a.start a.emptied
       unfolding write_answer
       answer_plan = (answered_run old cand back (write_plan old list cand) a e).0
 
@@ -97,7 +98,7 @@ module _ (old : List ℕ) (list : ProcessorList) (cand : List ℕ) where
   module _ (pass : Passes old list cand) where
     -- what is left of the plan
     passed_plan : write_plan old list cand
-        ≡ unless (not (any_below h.count (both_marks h))) (Refuse storage_full sharing_needed) (placed h (choose (block_count old) (blocks_of (total_size cand)) h))
+        ≡ unless (not (any_below h.count (both_marks h))) (Err SharingNeeded) (placed h (choose (block_count old) (blocks_of (total_size cand)) h))
     unfolding write_plan judged_plan good_plan unless
     passed_plan =
         let g = pass.good in
@@ -114,9 +115,9 @@ module _ (old : List ℕ) (list : ProcessorList) (cand : List ℕ) where
             rw (judged cand g.0 g.1 g.2 g.3 g.4).total at (good_blocks cand g.0 g.1 g.2 g.3 g.4)
 
         go : (t : Bool) → any_below h.count (both_marks h) ≡ t → (p : Pick) → choose (block_count old) (blocks_of (total_size cand)) h ≡ p
-            → write_plan old list cand ≡ unless (not t) (Refuse storage_full sharing_needed) (placed h p) → FullOrPlanned old list cand
-        go true q p r e = full sharing_needed e (both_marks_none old list cand pass.store some q)
-        go false q nowhere r e = full no_run e (chosen_none old list cand pass.store some r)
+            → write_plan old list cand ≡ unless (not t) (Err SharingNeeded) (placed h p) → FullOrPlanned old list cand
+        go true q p r e = full SharingNeeded refl e (both_marks_none old list cand pass.store some q)
+        go false q nowhere r e = full NoRun refl e (chosen_none old list cand pass.store some r)
         go false q (at start c) r e = planned start (count_below h.count h.shares + c) e
 
     module _ (back : ℕ) where
@@ -124,23 +125,23 @@ module _ (old : List ℕ) (list : ProcessorList) (cand : List ℕ) where
       full_none e = go full_or_planned
         where
           go : FullOrPlanned old list cand → NoLegal old list cand
-          go (full al q none) = none
+          go (full r f q none) = none
           go (planned start emptied q) = absurd (back_not_full (eqb back (revision cand)) start emptied _ (rw (answer_back back start emptied q) at e))
 
       pub none_full : NoLegal old list cand → ah_of (write_answer old list cand back) ≡ storage_full
       none_full none = go full_or_planned
         where
           go : FullOrPlanned old list cand → ah_of (write_answer old list cand back) ≡ storage_full
-          go (full al q no-legal) = ap ah_of (answer_full back al q)
+          go (full r f q no-legal) = ap ah_of (answer_full back r q) ∙ f
           go (planned start emptied q) = absurd (none start _ (planned_best old list cand start emptied (plan_run old list cand start emptied q)).legal)
 
       -- where there is a legal outcome
       module _ (start : ℕ) (e : ℕ → Bool) (legal : Legal old list cand (total_size cand) start e) where
-        legal_plan : (s : ℕ) × (n : ℕ) × (write_plan old list cand ≡ Run s n)
+        legal_plan : (s : ℕ) × (n : ℕ) × (write_plan old list cand ≡ run s n)
         legal_plan = go full_or_planned
           where
-            go : FullOrPlanned old list cand → (s : ℕ) × (n : ℕ) × (write_plan old list cand ≡ Run s n)
-            go (full al q none) = absurd (none start e legal)
+            go : FullOrPlanned old list cand → (s : ℕ) × (n : ℕ) × (write_plan old list cand ≡ run s n)
+            go (full r f q none) = absurd (none start e legal)
             go (planned s n q) = (s, n, q)
 
         pub accepts_back : (a : WrittenNumbers) → write_answer old list cand back ≡ Written a → back ≡ revision cand

@@ -3,6 +3,7 @@
 --   blocks_bit         bit c is set exactly if block c belongs to a stored update of the set
 --   emptied_block_lem  block c is one of an emptied update's, by number and by first block
 --   blocks_are         the bits that the marks give are the emptied blocks
+--   storing            what the proof of the storing step goes by
 use Rattle.std.specs.Prelude.{ℕ, ◌<◌, ◌≤◌, ◌≡◌, refl, Bool, true, List, ◌↔◌, get_or}
 use Rattle.std.proofs.Math.Path.{sym}
 use Rattle.std.proofs.Common.{ap, ◌∙◌, true≢false, lt_of_lt_of_le, arith, pow_mono}
@@ -32,7 +33,7 @@ use Rattle.write_outcome.specs.EmptiedBlocks.{emptied_blocks}
 use Rattle.write_outcome.proofs.ByteLaws.{emptied_at_lem, at_emptied}
 use Rattle.write_call.specs.Write.{emptied_at}
 use Rattle.write_call.specs.Storing.{Storing}
-use Rattle.write_call.proofs.Storing.{emptied_entry}
+use Rattle.write_call.proofs.Storing.{entries_for, entries_fit, emptied_entry, stored_bytes, run_inside, whole_lent}
 
 module _ (old : List ℕ) (ok : store_ok old ≡ true) where
   pub owned_inside : (b c : ℕ) → Owned old (first old) b c → c < block_count old
@@ -98,3 +99,10 @@ module _ (old cand : List ℕ) (m : Marked) (start : ℕ) (y : Storing old cand 
     where
       behind : (c : ℕ) → block_count old ≤ c → outcome.emptied_at old (emptied_at old cand start) c ≡ false
       behind c b = no_true (outcome.emptied_at old (emptied_at old cand start) c) (λ t. let w = emptied_at_lem old (emptied_at old cand start) c t in omega (arith, owned_inside old y.ok w.0 c w.2))
+
+-- t is the candidate's size
+pub blocks_answered : (old cand : List ℕ) (m : Marked) (start : ℕ) → Storing old cand m start → (t k r : ℕ) → t ≡ total_size cand → k ≡ blocks_of t
+    → r ≡ bits_below 32 (emptied_block (stored_of m) k start) → r ≡ emptied_blocks old (emptied_at old cand start)
+blocks_answered old cand m start y t k r e f h = blocks_are old cand m start y k (f ∙ ap blocks_of e) r h
+
+pub ruleset storing = (entries_for, entries_fit, run_inside, whole_lent, blocks_answered, stored_bytes)

@@ -3,7 +3,7 @@
 --   behind_plan       the plans are equal
 --   behind_outcome    the bytes of an outcome are equal
 --   behind_ignored    the answers are equal, and the bytes afterwards
-use Rattle.std.specs.Prelude.{ℕ, ◌*◌, ◌-◌, ◌≤◌, max, ◌≡◌, Bool, true, false, List, length, get_or, ltb, Ok, Err}
+use Rattle.std.specs.Prelude.{ℕ, ◌*◌, ◌-◌, ◌≤◌, max, ◌≡◌, Bool, true, false, List, Ok, Err, length, get_or, ltb}
 use Rattle.std.proofs.Math.Path.{refl, fun_ext}
 use Rattle.std.proofs.Common.{sym, ap, arith, ltb-true}
 use Rattle.laws.specs.Tabulate.{tabulate}
@@ -27,8 +27,7 @@ use Rattle.write_placement.specs.Agree.{Agree, choose_same, both_marks_same}
 use Rattle.write_outcome.specs.OutcomeBytes.{run_byte, outcome_byte, outcome_bytes}
 use Rattle.write_plan.specs.CandidateMarks.{update_at, shares_entry, needed_entry, stored_updates, outdates, outdated}
 use Rattle.write_plan.specs.PlanLaws.{placed_same}
-use Rattle.write_plan.specs.declared.Plan.{Plan}
-use Rattle.write_plan.specs.declared.Plan.TheVariants.{Run, Refuse}
+use Rattle.write_plan.specs.Plan.{Plan}
 use Rattle.write_call.specs.Write.{good_plan, judged_plan, write_plan, emptied_at, answered, write_answer, bytes_after, write_bytes}
 use Rattle.write_call.specs.Planned.{plan_run}
 
@@ -136,13 +135,13 @@ module _ (old : List ℕ) (list : ProcessorList) (cand other : List ℕ) (same :
       behind_planned : (p : Plan) → write_plan old list cand ≡ p
           → (answered old cand back p ≡ answered old other back p) × (bytes_after old cand back p ≡ bytes_after old other back p)
       unfolding answered bytes_after
-      behind_planned (Run start emptied) e =
-          let w = plan_run old list cand start emptied e in
+      behind_planned (Ok r) e =
+          let w = plan_run old list cand r.start r.emptied e in
           let k = blocks_of (total_size cand) in (
-            rw (revision_same, set_same (total_size cand) w.data w.entries k w.good start),
-            rw (revision_same, behind_outcome (total_size cand) w.data w.entries k w.good start),
+            rw (revision_same, set_same (total_size cand) w.data w.entries k w.good r.start),
+            rw (revision_same, behind_outcome (total_size cand) w.data w.entries k w.good r.start),
           )
-      behind_planned (Refuse ah al) e = (refl, refl)
+      behind_planned (Err r) e = (refl, refl)
 
       pub behind_ignored : (write_answer old list cand back ≡ write_answer old list other back)
           × (write_bytes old list cand back ≡ write_bytes old list other back)

@@ -2,6 +2,7 @@
 pub mod Answered
 pub mod AnsweredBlocks
 pub mod Behind
+pub mod Checking
 pub mod Chosen
 pub mod Counts
 pub mod Gone

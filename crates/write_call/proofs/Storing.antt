@@ -1,11 +1,11 @@
 -- The storing step: from the marks beside the directory to the bytes of the outcome.
---   planned_storable, storing     so it is after checks 1 to 8
+--   can_store       so it is after checks 1 to 8
 --   entries_for     the arrays list updates of the store
 --   entries_fit     none is empty, and all end within 32 blocks
 --   emptied_entry   an update that is emptied by its number is emptied by its first block
 --   stored_bytes    the bytes that are written are the outcome's
 --   run_inside, whole_lent    the run lies in the store; the candidate's bytes are lent, and at most 32,768
-use Rattle.std.specs.Prelude.{ℕ, ◌+◌, ◌*◌, ◌/◌, ◌<◌, ◌≤◌, ◌≡◌, refl, Bool, true, ◌&&◌, List, [], length}
+use Rattle.std.specs.Prelude.{ℕ, ◌+◌, ◌*◌, ◌/◌, ◌<◌, ◌≤◌, ◌≡◌, refl, Bool, true, ◌&&◌, List, Ok, length}
 use Rattle.std.proofs.Common.{sym, ap, ◌∙◌, leb-true, arith, ext_get_or}
 use Rattle.std.proofs.Math.Bool.{false, true≢false}
 use Rattle.std.proofs.Math.Dec.{leb}
@@ -26,30 +26,24 @@ use Rattle.store_directory.specs.DirectoryLaws.{Listing}
 use Rattle.store_directory.proofs.DirectoryLaws.{listing}
 use Rattle.write_marks.specs.StoredUpdates.{Fitting}
 use Rattle.write_marks.specs.Against.{touches_by_number, emptied_by_number, within, fills}
-use Rattle.write_marks.specs.StoredMarks.{stored_of, marks_of}
+use Rattle.write_marks.specs.StoredMarks.{stored_of}
 use Rattle.write_marks.specs.declared.Marked.{Marked}
 use Rattle.write_outcome.specs.OutcomeBytes.{in_run, cleared_byte, outcome_byte, outcome_bytes}
 use Rattle.write_outcome.proofs.ByteLaws.{emptied_same, at_run, outcome_length}
 use Rattle.write_outcome.specs.EmptiedEntries.{marked, Entries}
 use Rattle.write_outcome.proofs.EmptiedEntries.{entries_of_lem, marked_at}
-use Rattle.write_plan.specs.declared.Plan.{Plan}
-use Rattle.write_plan.specs.declared.Plan.TheVariants.{Run}
+use Rattle.write_plan.specs.declared.Run.{Run}
 use Rattle.write_plan.specs.CandidateMarks.{shares_entry}
 use Rattle.write_plan.specs.RightMarks.{Marks}
-use Rattle.write_call.specs.Write.{touched_at, emptied_at, good_plan, write_plan}
+use Rattle.write_call.specs.Write.{touched_at, emptied_at, write_plan}
 use Rattle.write_call.specs.Planned.{plan_run}
-use Rattle.write_call.specs.Storing.{Storing, Storable}
+use Rattle.write_call.specs.Storing.{Storing, CanStore}
 
-pub storing : (old cand : List ℕ) (m : Marked) (p : Plan) (start emptied : ℕ) → Storable old cand m p → p ≡ Run start emptied → Storing old cand m start
-unfolding Storable
-storing old cand m p start emptied y h = y start emptied h
-
-pub planned_storable : (old : List ℕ) (list : ProcessorList) (cand : List ℕ) (p : Plan) (m : Marked) (k : ℕ) → good_plan old list cand k ≡ write_plan old list cand
-    → p ≡ good_plan old list cand k → Marks old list cand m → Storable old cand (marks_of m.starts m.sizes m.shares [] m.count) p
-unfolding Storable
-planned_storable old list cand p m k e f y start emptied h =
-    let x = plan_run old list cand start emptied (sym e ∙ sym f ∙ h) in
-    record { ok = x.store; shared = y.shared; sizes = y.sizes; whole = x.whole; small = x.small; ends = x.ends }
+pub can_store : (old : List ℕ) (list : ProcessorList) (cand : List ℕ) (m : Marked) (r : Run) (t : ℕ) → Ok r ≡ write_plan old list cand → Marks old list cand m → t ≡ total_size cand
+    → CanStore old list cand (record { stored = m; run = r; total = t })
+can_store old list cand m r t e y q =
+    let x = plan_run old list cand r.start r.emptied (sym e) in
+    record { plan = e; storing = record { ok = x.store; shared = y.shared; sizes = y.sizes; whole = x.whole; small = x.small; ends = x.ends }; total = q }
 
 -- a set of first blocks matters only at the updates that own a block outside the run
 outcome_same : (old : List ℕ) (t : ℕ) (cand : List ℕ) (start : ℕ) (e f : ℕ → Bool)

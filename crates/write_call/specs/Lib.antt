@@ -1,7 +1,6 @@
 -- The write call (document 01, "The calls", 1): the definitions, demand 3, then laws.
 pub mod Write
 pub mod Demand
-pub mod CandidateSizes
 pub mod CandidateSizeLaws
 pub mod PlanCases
 pub mod Planned

@@ -1,7 +1,7 @@
 -- What the write answers, and the bytes that it leaves (document 01, "The calls", 1): each code exactly when its rule says, in the order 1 to 9.
 --   good_plan       checks 5 to 8 of a candidate that passes checks 2 to 4
 --   judged_plan     checks 2 to 8
---   write_plan      checks 1 to 8: a run, or the codes of the check that refuses
+--   write_plan      checks 1 to 8: a run, or the refusal of the first that fails
 --   touched_at      the run from `start` touches the update at block b
 --   emptied_at      the update at block b is emptied: it shares, wherever it lies, or the run touches it
 --   written         the answer with a start block, an emptied count and the emptied blocks
@@ -9,7 +9,7 @@
 --   write_answer    all of them
 --   bytes_after     the store after a plan and check 9
 --   write_bytes     the store afterwards: the outcome's bytes, or the old ones on a refusal
-use Rattle.std.specs.Prelude.{ℕ, ◌+◌, Bool, false, not, ◌&&◌, ◌||◌, List, ltb, eqb, Ok, Err}
+use Rattle.std.specs.Prelude.{ℕ, ◌+◌, Bool, false, not, ◌&&◌, ◌||◌, List, Ok, Err, ltb, eqb}
 use Rattle.laws.specs.Unless.{unless}
 use Rattle.update_header.specs.Fields.{revision, total_size}
 use Rattle.update_sizes.specs.Sizes.{blocks_of}
@@ -20,33 +20,32 @@ use Rattle.store_directory.specs.Scan.{size_at, store_ok}
 use Rattle.processor_list.specs.Processors.{ProcessorList, list_ok, covers_one}
 use Rattle.write_outcome.specs.OutcomeBytes.{outcome_bytes}
 use Rattle.write_outcome.specs.EmptiedBlocks.{emptied_blocks}
-use Rattle.call_answers.specs.Codes.{success, read_failure, cpu_not_present, invalid_revision, security_failure, none, bad_store, bad_processors}
-use Rattle.call_answers.specs.Answers.{refusal}
+use Rattle.call_answers.specs.Codes.{success, none}
+use Rattle.call_answers.specs.Refusals.{refused}
+use Rattle.call_answers.specs.declared.refusal.Refusal.TheVariants.{BadStore, BadProcessors, ProcessorNotPresent, SecurityFailure, InvalidRevision}
 use Rattle.call_answers.specs.declared.answer.Answer.{Answer}
 use Rattle.call_answers.specs.declared.answer.Answer.TheVariants.{Written}
 use Rattle.write_plan.specs.CandidateMarks.{stored_updates, outdated}
-use Rattle.write_plan.specs.Plan.{marked_plan}
-use Rattle.write_plan.specs.VerdictCode.{verdict_ah}
-use Rattle.write_plan.specs.declared.Plan.{Plan}
-use Rattle.write_plan.specs.declared.Plan.TheVariants.{Run, Refuse}
+use Rattle.write_plan.specs.Plan.{Plan, marked_plan}
+use Rattle.write_plan.specs.VerdictCode.{refusal_of}
 
 -- checks 5 to 8
 unfoldable pub good_plan : List ℕ → ProcessorList → List ℕ → ℕ → Plan
 good_plan old list cand k =
-    unless (covers_one list cand) (Refuse cpu_not_present none)
-    (unless (not (outdated old cand)) (Refuse invalid_revision none)
+    unless (covers_one list cand) (Err ProcessorNotPresent)
+    (unless (not (outdated old cand)) (Err InvalidRevision)
     (marked_plan (block_count old) (stored_updates old list cand) k))
 
 -- checks 2 to 8
 unfoldable pub judged_plan : List ℕ → ProcessorList → List ℕ → Verdict → Plan
 judged_plan old list cand (Ok m) = good_plan old list cand m.blocks
-judged_plan old list cand (Err x) = Refuse (verdict_ah (Err x)) none
+judged_plan old list cand (Err x) = Err (refusal_of x)
 
 -- checks 1 to 8
 unfoldable pub write_plan : List ℕ → ProcessorList → List ℕ → Plan
 write_plan old list cand =
-    unless (store_ok old) (Refuse read_failure bad_store)
-    (unless (list_ok list) (Refuse read_failure bad_processors)
+    unless (store_ok old) (Err BadStore)
+    (unless (list_ok list) (Err BadProcessors)
     (judged_plan old list cand (verdict cand)))
 
 -- the run of k blocks from the start touches the update at block b
@@ -62,17 +61,17 @@ written start emptied blocks =
 
 -- check 9: the revision that the processor read back is the candidate's
 unfoldable pub answered : List ℕ → List ℕ → ℕ → Plan → Answer
-answered old cand back (Run start emptied) =
-    unless (eqb back (revision cand)) (refusal security_failure none) (written start emptied (emptied_blocks old (emptied_at old cand start)))
-answered old cand back (Refuse ah al) = refusal ah al
+answered old cand back (Ok r) =
+    unless (eqb back (revision cand)) (refused SecurityFailure) (written r.start r.emptied (emptied_blocks old (emptied_at old cand r.start)))
+answered old cand back (Err r) = refused r
 
 unfoldable pub write_answer : List ℕ → ProcessorList → List ℕ → ℕ → Answer
 write_answer old list cand back = answered old cand back (write_plan old list cand)
 
 unfoldable pub bytes_after : List ℕ → List ℕ → ℕ → Plan → List ℕ
-bytes_after old cand back (Run start emptied) =
-    unless (eqb back (revision cand)) old (outcome_bytes old (total_size cand) cand start (emptied_at old cand start))
-bytes_after old cand back (Refuse ah al) = old
+bytes_after old cand back (Ok r) =
+    unless (eqb back (revision cand)) old (outcome_bytes old (total_size cand) cand r.start (emptied_at old cand r.start))
+bytes_after old cand back (Err r) = old
 
 unfoldable pub write_bytes : List ℕ → ProcessorList → List ℕ → ℕ → List ℕ
 write_bytes old list cand back = bytes_after old cand back (write_plan old list cand)

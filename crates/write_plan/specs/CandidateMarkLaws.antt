@@ -2,6 +2,7 @@
 --   shares_is, needed_is        a turn of the loop that marks; marks_made: its end
 --   outdate_older, outdate_apart    a turn of the scan for one that shares and isn't older: past an older one, past one that doesn't share
 --   outdate_stop, outdate_done      its way out, and its end
+--   marking, outdating          what the proofs of the two go by
 --   stored_same                 right marks agree with the definitions' table
 use Rattle.std.specs.Prelude.{ℕ, ◌+◌, ◌<◌, ◌≤◌, ◌≡◌, Bool, true, false, ◌&&◌, List, length, get_or, leb}
 use Rattle.std.proofs.Math.Path.{sym}
@@ -9,17 +10,21 @@ use Rattle.std.proofs.Common.{◌∙◌}
 use Rattle.std.proofs.Math.Bool.{and-false}
 use borrow.Author.Tests.{le-leb, lt-leb}
 use Rattle.processor_list.specs.Processors.{ProcessorList}
-use Rattle.laws.specs.Below.{any_below, rows, any_more, any_stop}
-use Rattle.laws.specs.Loops.{scan_done, scan_unset}
-use Rattle.laws.specs.Arrays.{Filled, filled_all}
+use Rattle.laws.specs.Below.{any_below, rows, any_none, any_more, any_stop}
+use Rattle.laws.specs.Loops.{scan_done, nest_more}
+use Rattle.laws.specs.Arrays.{Filled, filled_none, filled_more, filled_all}
 use Rattle.update_header.specs.Fields.{revision}
 use Rattle.update_coverage.specs.Covers.{pair_count}
+use Rattle.update_coverage.proofs.PairLaws.{count_is}
 use Rattle.update_sharing.specs.Shares.{shares_at, shares}
+use Rattle.update_sharing.proofs.ShareLaws.{share_more, share_stop}
 use Rattle.store_blocks.specs.Blocks.{from_block}
 use Rattle.store_directory.specs.Scan.{directory}
+use Rattle.store_directory.proofs.StoreLaws.{directory_few}
+use Rattle.store_directory.proofs.PairedLaws.{directory_pairs}
 use Rattle.store_directory.specs.declared.Directory.{Directory}
 use Rattle.write_placement.specs.Agree.{Agree}
-use Rattle.write_marks.specs.StoredMarks.{stored_of}
+use Rattle.write_marks.specs.StoredMarks.{stored_of, marks_of}
 use Rattle.write_marks.specs.declared.Marked.{Marked}
 use Rattle.processor_list.specs.Covered.{Covered, needed_by_marks}
 use Rattle.processor_list.proofs.CoveredLaws.{needed_by_is}
@@ -37,9 +42,9 @@ module _ (old u cand : List ℕ) (d : Directory) (i : ℕ) (r : Bool) (e : d ≡
   needed_is list marks right h = needed_by_is list cand marks right u r h ∙ rw (part, e)
 
 -- the loop's end
-pub marks_made : (old : List ℕ) (list : ProcessorList) (cand : List ℕ) (d : Directory) (i : ℕ) (xs ys : List Bool) → d ≡ directory old → d.count ≤ 32
+pub marks_made : (old : List ℕ) (list : ProcessorList) (cand : List ℕ) (d : Directory) (i : ℕ) (xs ys : List Bool) → d ≡ directory old → (few : d.count ≤ 32)
     → Filled false 32 (shares_entry old cand) i xs → Filled false 32 (needed_entry old list cand) i ys → i ≤ d.count → d.count ≤ i
-    → Marks old list cand (record { starts = d.starts; sizes = d.sizes; shares = xs; needed = ys; count = d.count })
+    → Marks old list cand (marks_of d.starts d.sizes xs ys d.count few)
 marks_made old list cand d i xs ys e few a b l m =
     record {
       sizes = rw e;
@@ -68,9 +73,9 @@ module _ (old cand u : List ℕ) (d : Directory) (i new v : ℕ) (e : d ≡ dire
   unfolding outdated
   outdate_stop l a h = sym (any_stop (outdates old cand) (directory old).count i (rw e at l) (sym outdates_is ∙ rw (← h, le-leb new v a)))
 
-pub outdate_done : (old cand : List ℕ) (d : Directory) (i : ℕ) (found : Bool) → d ≡ directory old → found ≡ false → any_below i (outdates old cand) ≡ false → i ≤ d.count → d.count ≤ i → found ≡ outdated old cand
+pub outdate_done : (old cand : List ℕ) (d : Directory) (i : ℕ) → d ≡ directory old → any_below i (outdates old cand) ≡ false → i ≤ d.count → d.count ≤ i → false ≡ outdated old cand
 unfolding outdated
-outdate_done old cand d i found e f h a b = scan_unset (outdates old cand) i found d.count (directory old).count f (rw e) a b h
+outdate_done old cand d i e h a b = scan_done (outdates old cand) i d.count (directory old).count (rw e) a b h
 
 pub stored_same : (old : List ℕ) (list : ProcessorList) (cand : List ℕ) (m : Marked) → Marks old list cand m → Agree (stored_of m) (stored_updates old list cand)
 unfolding stored_of stored_updates
@@ -83,3 +88,7 @@ stored_same old list cand m right =
       shares = λ i l. s.marks.each i l;
       needed = λ i l. right.needed.each i l;
     }
+
+pub ruleset marking = (directory_few, directory_pairs, filled_none, filled_more, shares_is, needed_is, marks_made)
+
+pub ruleset outdating = (directory_few, directory_pairs, any_none, count_is, nest_more, share_more, share_stop, outdate_older, outdate_apart, outdate_stop, outdate_done)

@@ -1,9 +1,8 @@
 -- Checks 7 and 8 as the code takes them.
---   placing    by cases of the choice, as `search` takes them
---   place_few  the emptied count is at most 64, so the code's sum can't overflow
+--   placing    check 8, by cases of the choice; the emptied count is at most 64, so the code's sum can't overflow
 --   placed_same    it goes by the starts, sizes and marks alone
---   marked_both, marked_placed    checks 7 and 8, a return at each
-use Rattle.std.specs.Prelude.{ℕ, suc, ◌+◌, ◌-◌, ◌≤◌, ◌≡◌, refl, Bool, true, false}
+--   planning    checks 7 and 8, a return at each
+use Rattle.std.specs.Prelude.{ℕ, suc, ◌+◌, ◌-◌, ◌≤◌, ◌≡◌, refl, Bool, true, false, Option, Some, None, Err}
 use Rattle.std.proofs.Common.{sym, ◌∙◌, subst, arith}
 use Rattle.laws.specs.Orders.{impossible}
 use Rattle.laws.specs.Below.{any_below}
@@ -19,12 +18,9 @@ use Rattle.write_marks.specs.StoredMarks.{stored_of, both_at, both_marks_is, sha
 use Rattle.write_placement.specs.Choices.{choice_of}
 use Rattle.laws.specs.Arrays.{mark_at}
 use Rattle.write_marks.specs.declared.Marked.{Marked}
-use Rattle.write_placement.specs.declared.Choice.{Choice}
-use Rattle.write_placement.specs.declared.Choice.TheVariants.{At, Nowhere}
-use Rattle.call_answers.specs.Codes.{storage_full, sharing_needed, no_run}
-use Rattle.write_plan.specs.declared.Plan.{Plan}
-use Rattle.write_plan.specs.declared.Plan.TheVariants.{Run, Refuse}
-use Rattle.write_plan.specs.Plan.{placed, marked_plan}
+use Rattle.write_placement.specs.declared.Place.{Place}
+use Rattle.call_answers.specs.declared.refusal.Refusal.TheVariants.{SharingNeeded, NoRun}
+use Rattle.write_plan.specs.Plan.{Plan, run, placed, marked_plan}
 
 choose_most : (h : StoredUpdates) (n k s c : ℕ) → choose n k h ≡ at s c → c ≤ h.count
 unfolding choose lost
@@ -34,34 +30,36 @@ choose_most h n k s c e =
     let z = count_most (loses h k s) h.count in
     omega arith
 
-choice_at : (p : Pick) (s c : ℕ) → choice_of p ≡ At s c → p ≡ at s c
-choice_at nowhere s c e = absurd (impossible (cc))
-choice_at (at t d) s c e = let p : t ≡ s = cc in let q : d ≡ c = cc in rw (p, q)
+choice_at : (q : Pick) (p : Place) → choice_of q ≡ Some p → q ≡ at p.start p.touched
+choice_at nowhere p e = absurd (impossible (cc))
+choice_at (at s c) p e =
+    let w : record { start = s; touched = c } ≡ p = cc in
+    rw (← w)
 
-choice_nowhere : (p : Pick) → choice_of p ≡ Nowhere → p ≡ nowhere
+choice_nowhere : (q : Pick) → choice_of q ≡ None → q ≡ nowhere
 choice_nowhere nowhere e = refl
-choice_nowhere (at t d) e = absurd (impossible (cc))
+choice_nowhere (at s c) e = absurd (impossible (cc))
 
 -- r is what `choose_run` answered, v how many share
-module _ (m : Marked) (n k : ℕ) (r : Choice) (e : r ≡ choice_of (choose n k (stored_of m))) where
-  pub place_none : r ≡ Nowhere → Refuse storage_full no_run ≡ placed (stored_of m) (choose n k (stored_of m))
+module _ (m : Marked) (n k : ℕ) (r : Option Place) (e : r ≡ choice_of (choose n k (stored_of m))) where
+  pub place_none : r ≡ None → Err NoRun ≡ placed (stored_of m) (choose n k (stored_of m))
   unfolding placed
   place_none h = rw (choice_nowhere (choose n k (stored_of m)) (sym e ∙ h))
 
-  module _ (s c v : ℕ) (h : r ≡ At s c) (f : v ≡ count_below m.count (mark_at m.shares)) where
+  module _ (p : Place) (v : ℕ) (h : r ≡ Some p) (f : v ≡ count_below m.count (mark_at m.shares)) where
     g : v ≡ count_below m.count (stored_of m).shares
     g = shared_marks m v f
 
-    pub place_some : Run s (v + c) ≡ placed (stored_of m) (choose n k (stored_of m))
+    pub place_some : run p.start (v + p.touched) ≡ placed (stored_of m) (choose n k (stored_of m))
     unfolding placed stored_of
-    place_some = rw (choice_at (choose n k (stored_of m)) s c (sym e ∙ h), g)
+    place_some = rw (choice_at (choose n k (stored_of m)) p (sym e ∙ h), g)
 
-    pub place_few : m.count ≤ 32 → v + c ≤ 64
+    pub place_few : v + p.touched ≤ 64
     unfolding stored_of
-    place_few l =
-        omega (arith, g, count_most (stored_of m).shares m.count, choose_most (stored_of m) n k s c (choice_at (choose n k (stored_of m)) s c (sym e ∙ h)))
+    place_few =
+        omega (arith, g, m.few, count_most (stored_of m).shares m.count, choose_most (stored_of m) n k p.start p.touched (choice_at (choose n k (stored_of m)) p (sym e ∙ h)))
 
-pub ruleset placing = (place_none, place_some)
+pub ruleset placing = (place_none, place_some, place_few)
 
 pub placed_same : (g h : StoredUpdates) (p : Pick) → Agree g h → placed g p ≡ placed h p
 unfolding placed
@@ -73,10 +71,12 @@ module _ (m : Marked) (n k : ℕ) (t : Bool) (g : t ≡ any_below m.count (both_
   both_is : t ≡ any_below (stored_of m).count (both_marks (stored_of m))
   both_is = both_marks_is m t g
 
-  pub marked_both : t ≡ true → Refuse storage_full sharing_needed ≡ marked_plan n (stored_of m) k
+  pub marked_both : t ≡ true → Err SharingNeeded ≡ marked_plan n (stored_of m) k
   unfolding unless
   marked_both h = rw (← both_is, h)
 
   pub marked_placed : (z : Plan) → t ≡ false → z ≡ placed (stored_of m) (choose n k (stored_of m)) → z ≡ marked_plan n (stored_of m) k
   unfolding unless
   marked_placed z h q = rw (← both_is, h) q
+
+pub ruleset planning = (marked_both, marked_placed)

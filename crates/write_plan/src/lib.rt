@@ -4,72 +4,46 @@
 pub mod marks;
 
 ghost use Rattle.std.specs.Prelude.{◌≡◌, ◌/◌, ◌≤◌, length};
-ghost use Rattle.write_marks.specs.StoredMarks.{stored_of, marks_of};
+ghost use Rattle.write_marks.specs.StoredMarks.{stored_of};
 ghost use Rattle.write_placement.specs.Choose.{choose};
 ghost use Rattle.write_plan.specs.Plan.{placed, marked_plan};
 ghost use Rattle.store_blocks.specs.Blocks.{block_count};
 
-use call_answers::code;
-use store_blocks::MOST_BLOCKS;
-use write_placement::Choice;
+use call_answers::refusal::Refusal;
+use write_marks::Marked;
 
-// What checks 1 to 8 find.
+// The run that checks 1 to 8 choose: its start block, and how many stored updates are to be emptied.
 #[derive(Clone, Copy)]
-pub enum Plan {
-    // the start block of the run, and how many stored updates are to be emptied
-    Run { start: u32, emptied: u32 },
-    // the codes of the check that refuses
-    Refuse { ah: u8, al: u8 },
+pub struct Run {
+    pub start: u32,
+    pub emptied: u32,
 }
+
+// What checks 1 to 8 find: a run, or the refusal of the first that fails.
+pub type Plan = Result<Run, Refusal>;
 
 // Check 8: the run that touches the fewest non-sharing updates, lowest start on a tie.
-fn place<'a>(
-    starts: &'a [u8; MOST_BLOCKS],
-    sizes: &'a [u8; MOST_BLOCKS],
-    shares: &'a [bool; MOST_BLOCKS],
-    needed: &'a [bool; MOST_BLOCKS],
-    count: usize,
-    n: u32,
-    k: u32,
-) -> Plan
-    requires { (count ≤ 32) × (n ≤ 32) }
-    ensures { let h = stored_of (marks_of starts.now sizes.now shares.now
-        needed.now count) in
-        result ≡ placed h (choose n k h) }
+#[tactic(auto, using(crate::specs::PlanLaws::placing))]
+fn place(m: &Marked, n: u32, k: u32) -> Plan
+    requires { n ≤ 32 }
+    ensures { let h = stored_of m.now in result ≡ placed h (choose n k h) }
 {
-    let choice = write_placement::choose_run(starts, sizes, shares, needed, count, n, k);
-    match choice {
-        Choice::Nowhere => Plan::Refuse {
-            ah: code::STORAGE_FULL,
-            al: code::NO_RUN,
-        },
-        Choice::At { start, touched } => Plan::Run {
-            start,
-            emptied: write_marks::shared(shares, count) + touched,
-        },
-    }
+    let place = write_placement::choose_run(m, n, k).ok_or(Refusal::NoRun)?;
+    Ok(Run {
+        start: place.start,
+        emptied: m.shared() + place.touched,
+    })
 }
 
-// Checks 7 and 8, for a candidate of `k` blocks. The stored updates are lent by their starts, sizes and marks.
-pub fn plan_marked<'a>(
-    store: &[u8],
-    starts: &'a [u8; MOST_BLOCKS],
-    sizes: &'a [u8; MOST_BLOCKS],
-    shares: &'a [bool; MOST_BLOCKS],
-    needed: &'a [bool; MOST_BLOCKS],
-    count: usize,
-    k: u32,
-) -> Plan
-    requires { (count ≤ 32) × (length store.now / 2048 ≤ 32) }
-    ensures { result ≡ marked_plan (block_count store.now) (stored_of (marks_of starts.now
-        sizes.now shares.now needed.now count)) k }
+// Checks 7 and 8, for a candidate of `k` blocks and the stored updates with their marks.
+#[tactic(auto, using(crate::specs::PlanLaws::planning), unfolding(store_blocks::specs::Blocks::block_count))]
+pub fn plan_marked(store: &[u8], m: &Marked, k: u32) -> Plan
+    requires { length store.now / 2048 ≤ 32 }
+    ensures { result ≡ marked_plan (block_count store.now) (stored_of m.now) k }
 {
-    if write_marks::both_marks(shares, needed, count) {
-        return Plan::Refuse {
-            ah: code::STORAGE_FULL,
-            al: code::SHARING_NEEDED,
-        };
+    if m.both_marks() {
+        return Err(Refusal::SharingNeeded);
     }
     let n = (store.len() / store_blocks::BLOCK) as u32;
-    place(starts, sizes, shares, needed, count, n, k)
+    place(m, n, k)
 }

@@ -1,4 +1,5 @@
 // The marks of the stored updates against a candidate, and whether one of them is as new.
+// The IA-32 archive keeps no slice in a struct, so the two lists, and an update and its pairs, are lent side by side.
 ghost use Rattle.std.specs.Prelude.{◌≡◌, ◌≤◌, length};
 ghost use Rattle.processor_list.specs.Processors.{list_of};
 ghost use Rattle.store_directory.specs.Scan.{directory};
@@ -15,6 +16,7 @@ use write_marks::Marked;
 
 // Marks each stored update: it shares a processor with the candidate; it covers a listed processor that the candidate doesn't. `marks` are
 // those of the listed processors that the candidate covers.
+#[tactic(auto, using(crate::specs::CandidateMarkLaws::marking))]
 pub fn mark(
     store: &[u8],
     d: Directory,
@@ -29,22 +31,18 @@ pub fn mark(
     requires covered { Covered (list_of signatures.now platforms.now) candidate.now marks }
     ensures { Marks store.now (list_of signatures.now platforms.now) candidate.now result }
 {
-    let mut shared = [false; MOST_BLOCKS];
+    let mut shares = [false; MOST_BLOCKS];
     let mut needed = [false; MOST_BLOCKS];
-    let mut i: usize = 0;
-    while i < d.count {
+    for i in 0..d.count {
         let u = store_blocks::from_start(store, d.starts[i]);
         let p = update_coverage::judged_pairs(u);
-        shared[i] = update_sharing::shares_with(u, p, candidate, pairs);
+        shares[i] = update_sharing::shares_with(u, p, candidate, pairs);
         needed[i] = processor_list::is_needed(signatures, platforms, marks, u, p);
-        i += 1;
     }
-    let starts = d.starts;
-    let sizes = d.sizes;
     Marked {
-        starts,
-        sizes,
-        shares: shared,
+        starts: d.starts,
+        sizes: d.sizes,
+        shares,
         needed,
         count: d.count,
     }
@@ -52,35 +50,27 @@ pub fn mark(
 
 // Check 6: does some stored update share a processor with the candidate, with a revision that is equal or greater? The scan of its pairs
 // and the candidate's leaves at the first two that share; an older update isn't compared.
+#[tactic(auto, using(crate::specs::CandidateMarkLaws::outdating), unfolding(update_sharing::specs::Shares::shares))]
 pub fn outdated(store: &[u8], d: Directory, candidate: &[u8], pairs: Pairs) -> bool
     requires { (d ≡ directory store.now) × (pairs ≡ pairs_of candidate.now) }
     ensures { result ≡ outdated store.now candidate.now }
 {
     let new = fields::revision(candidate);
-    let mut found = false;
-    let mut i: usize = 0;
-    'scan: while i < d.count {
+    for i in 0..d.count {
         let u = store_blocks::from_start(store, d.starts[i]);
         if fields::revision(u) < new {
-            i += 1;
-        } else {
-            let p = update_coverage::judged_pairs(u);
-            let mut j: u32 = 0;
-            while j < p.count {
-                let x = update_coverage::signature_at(u, p, j);
-                let f = update_coverage::platforms_at(u, p, j);
-                let mut k: u32 = 0;
-                while k < pairs.count {
-                    if update_sharing::shares_at(x, f, candidate, pairs, k) {
-                        found = true;
-                        break 'scan;
-                    }
-                    k += 1;
+            continue;
+        }
+        let p = update_coverage::judged_pairs(u);
+        for j in 0..p.count {
+            let x = update_coverage::signature_at(u, p, j);
+            let f = update_coverage::platforms_at(u, p, j);
+            for k in 0..pairs.count {
+                if update_sharing::shares_at(x, f, candidate, pairs, k) {
+                    return true;
                 }
-                j += 1;
             }
-            i += 1;
         }
     }
-    found
+    false
 }
