@@ -4,7 +4,7 @@
 --   Code        the AH of all bytes with these sizes and this count field
 --   answer      what check 8 finds, of stored updates by start, size and marks
 --   Starred     the table, a line for each case
-use Rattle.std.specs.Prelude.{◌≡◌, ℕ, ◌/◌, ◌%◌, ◌^◌, ◌<◌, ◌≤◌, Bool, true, false, List, [], ◌∷◌, ◌++◌, length, replicate, ◌≢◌, slice_index, slice_index_or}
+use Rattle.std.specs.Prelude.{◌≡◌, ℕ, ◌/◌, ◌%◌, ◌^◌, ◌<◌, ◌≤◌, Bool, true, false, List, [], ◌∷◌, ◌++◌, length, replicate, ◌≢◌, slice_index, slice_index_or, Err}
 use Rattle.update_sizes.specs.Sizes.{sizes_ok, blocks_of}
 use Rattle.update_header.specs.Fields.{data_size, total_size, table_count, entry_count}
 use Rattle.update_header.specs.Checks.{sizes_fit}
@@ -12,11 +12,10 @@ use Rattle.update_verdict.specs.Verdict.{Good, verdict}
 use Rattle.update_coverage.specs.Covers.{covers}
 use Rattle.write_marks.specs.StoredUpdates.{StoredUpdates}
 use Rattle.write_placement.specs.Choose.{choose}
-use Rattle.call_answers.specs.Codes.{storage_full, invalid_header, invalid_header_cs, no_run}
-use Rattle.write_plan.specs.Plan.{placed}
+use Rattle.call_answers.specs.Codes.{invalid_header, invalid_header_cs}
+use Rattle.call_answers.specs.declared.refusal.Refusal.TheVariants.{NoRun}
+use Rattle.write_plan.specs.Plan.{Plan, run, placed}
 use Rattle.write_plan.specs.VerdictCode.{verdict_ah}
-use Rattle.write_plan.specs.declared.Plan.{Plan}
-use Rattle.write_plan.specs.declared.Plan.TheVariants.{Run, Refuse}
 
 unfoldable pub bytes : ℕ → List ℕ
 bytes x = x % 256 ∷ x / 256 % 256 ∷ x / 65536 % 256 ∷ x / 16777216 % 256 ∷ []
@@ -81,6 +80,6 @@ pub record Starred : Type 0 where
   pub t_no_dwords : (d t n : ℕ) → (t % 4 ≢ 0) → Code d t n invalid_header
   pub d_32688_t_32768_n_1 : sizes_ok 32688 32768 1 ≡ true
   pub t_32772 : (d n : ℕ) → Code d 32772 n invalid_header
-  pub stale_then_three_unused : answer 4 2 stale_first ≡ Run 1 0
-  pub stale_of_two_stale_of_one_unused : answer 4 2 two_stale ≡ Run 0 1
-  pub needed_stale_needed_stale : answer 4 2 alternating ≡ Refuse storage_full no_run
+  pub stale_then_three_unused : answer 4 2 stale_first ≡ run 1 0
+  pub stale_of_two_stale_of_one_unused : answer 4 2 two_stale ≡ run 0 1
+  pub needed_stale_needed_stale : answer 4 2 alternating ≡ Err NoRun
