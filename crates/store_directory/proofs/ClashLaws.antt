@@ -56,9 +56,9 @@ module _ (s xs : List ℕ) (i : ℕ) (q : any_below i (clash_row s xs) ≡ false
   unfolding clash_row
   row_more j h u v = let e : j ≡ i = omega arith in any_more (clash_row s xs) i q (rw e at h)
 
-  pub clash_done : (found : Bool) (n : ℕ) → found ≡ false → i ≤ n → n ≤ i → found ≡ clash s xs n
+  pub clash_done : (n : ℕ) → i ≤ n → n ≤ i → false ≡ clash s xs n
   unfolding clash
-  clash_done found n f u v = let e : i ≡ n = omega arith in f ∙ sym (rw e at q)
+  clash_done n u v = let e : i ≡ n = omega arith in sym (rw e at q)
 
 pub clash_few : (s xs : List ℕ) (n : ℕ) → n < 2 → false ≡ clash s xs n
 unfolding clash clash_row any_below

@@ -2,7 +2,7 @@
 --   sum_three      signature + flags + checksum, added one by one
 --   all_split      the T bytes are those before the table and the table, so one sum of each serves both rules
 --   table_length   the table has 20 + 12 n bytes, or none
---   summing        the verdict on the sums, a return at each test, as `search` takes it
+--   summing        the verdict on the sums, test by test, as `search` takes it
 use Rattle.std.specs.Prelude.{◌≡◌, ℕ, ◌+◌, ◌-◌, ◌*◌, ◌/◌, ◌%◌, ◌^◌, ◌≤◌, min, Bool, false, List, length, take, drop, ◌≢◌}
 use Rattle.std.proofs.Common.{sym, ◌∙◌, ap, arith, length-take, length-drop, take-add}
 use Rattle.laws.specs.Below.{all_below}

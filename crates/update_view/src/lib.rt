@@ -19,7 +19,7 @@ pub struct UpdateView<'a> {
 }
 
 // The update that begins the slice; no bytes where there is none.
-pub fn view<'a>(bytes: &'a [u8]) -> UpdateView<'a>
+pub fn view(bytes: &[u8]) -> UpdateView<'_>
     ensures { result.bytes.now ≡ viewed bytes.now }
 {
     UpdateView {
@@ -28,61 +28,61 @@ pub fn view<'a>(bytes: &'a [u8]) -> UpdateView<'a>
 }
 
 // A view of no update holds no bytes: of `view(s)` this is true exactly if an update begins s (`holds_update`).
-pub fn is_update<'a>(v: UpdateView<'a>) -> bool
+pub fn is_update(v: UpdateView<'_>) -> bool
     ensures { result ≡ holds_bytes v.entry.bytes.now }
 {
     parts::holds_bytes(v.bytes)
 }
 
-pub fn header_version<'a>(v: UpdateView<'a>) -> u32
+pub fn header_version(v: UpdateView<'_>) -> u32
     ensures { result ≡ version v.entry.bytes.now }
 {
     fields::version(v.bytes)
 }
 
-pub fn revision<'a>(v: UpdateView<'a>) -> u32
+pub fn revision(v: UpdateView<'_>) -> u32
     ensures { result ≡ revision v.entry.bytes.now }
 {
     fields::revision(v.bytes)
 }
 
-pub fn date<'a>(v: UpdateView<'a>) -> u32
+pub fn date(v: UpdateView<'_>) -> u32
     ensures { result ≡ date v.entry.bytes.now }
 {
     fields::date(v.bytes)
 }
 
-pub fn signature<'a>(v: UpdateView<'a>) -> u32
+pub fn signature(v: UpdateView<'_>) -> u32
     ensures { result ≡ signature v.entry.bytes.now }
 {
     fields::signature(v.bytes)
 }
 
-pub fn checksum<'a>(v: UpdateView<'a>) -> u32
+pub fn checksum(v: UpdateView<'_>) -> u32
     ensures { result ≡ checksum v.entry.bytes.now }
 {
     fields::checksum(v.bytes)
 }
 
-pub fn loader_version<'a>(v: UpdateView<'a>) -> u32
+pub fn loader_version(v: UpdateView<'_>) -> u32
     ensures { result ≡ loader_version v.entry.bytes.now }
 {
     fields::loader_version(v.bytes)
 }
 
-pub fn flags<'a>(v: UpdateView<'a>) -> u32
+pub fn flags(v: UpdateView<'_>) -> u32
     ensures { result ≡ flags v.entry.bytes.now }
 {
     fields::flags(v.bytes)
 }
 
-pub fn data_size<'a>(v: UpdateView<'a>) -> usize
+pub fn data_size(v: UpdateView<'_>) -> usize
     ensures { result ≡ length (data_part v.entry.bytes.now) }
 {
     parts::data_size(v.bytes)
 }
 
-pub fn total_size<'a>(v: UpdateView<'a>) -> usize
+pub fn total_size(v: UpdateView<'_>) -> usize
     ensures { result ≡ length v.entry.bytes.now }
 {
     parts::total_size(v.bytes)

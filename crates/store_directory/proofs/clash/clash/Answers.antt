@@ -1,5 +1,5 @@
 -- `store_directory::clash::clash` meets its contract, by the laws of the two scans.
-use Rattle.std.proofs.Common.{refl, arith}
+use Rattle.std.proofs.Common.{arith}
 use Rattle.laws.specs.Below.{any_none}
 use Rattle.store_directory.proofs.ClashLaws.{kept_none, kept_more, kept_at, clash_more, clash_apart, clash_stop, row_more, clash_done}
 use Rattle.store_directory.proofs.clash.clash.Goals as goal
@@ -32,7 +32,7 @@ loop-i-preserved c = (
 )
 
 pub returns : goal.returns
-returns c = clash_done _ _ _ c.loop-i.invariant.0 _ _ refl (omega arith) (omega arith)
+returns c = clash_done _ _ _ c.loop-i.invariant.0 _ (omega arith) (omega arith)
 
 pub returns-then-pairs_share : goal.returns-then-pairs_share
 returns-then-pairs_share c =
