@@ -10,6 +10,7 @@ ghost use Rattle.processor_list.specs.Covered.{Covered, needed_by_marks};
 
 use update_coverage::Pairs;
 
+#[tactic(auto, unfolding(crate::specs::Processors::platform_ok))]
 fn platform_ok(platforms: &[u8], i: usize) -> bool
     requires { i < length platforms.now }
     ensures { result ≡ platform_ok platforms.now i }
@@ -17,24 +18,17 @@ fn platform_ok(platforms: &[u8], i: usize) -> bool
     platforms[i] <= 7
 }
 
-// 1 to 8 signatures with as many platform numbers, each at most 7.
+// 1 to 8 signatures with as many platform numbers, each at most 7. The list is two slices because the C interface lends it so, and a struct
+// that holds them doesn't fit the IA-32 archive.
+#[tactic(auto, using(laws::specs::Loops::each, crate::specs::ListLaws::list_tests))]
 pub fn list_ok(signatures: &[u32], platforms: &[u8]) -> bool
     ensures { result ≡ list_ok (list_of signatures.now platforms.now) }
 {
-    if signatures.len() != platforms.len() {
+    if signatures.len() != platforms.len() || signatures.is_empty() || signatures.len() > 8 {
         return false;
     }
-    if signatures.len() < 1 {
-        return false;
-    }
-    if signatures.len() > 8 {
-        return false;
-    }
-    let mut i: usize = 0;
-    while i < platforms.len() {
-        if platform_ok(platforms, i) {
-            i += 1;
-        } else {
+    for i in 0..platforms.len() {
+        if !platform_ok(platforms, i) {
             return false;
         }
     }
@@ -42,38 +36,37 @@ pub fn list_ok(signatures: &[u32], platforms: &[u8]) -> bool
 }
 
 // Does the update cover listed processor `i`?
+#[tactic(auto, unfolding(crate::specs::Processors::covers_listed))]
 fn covers_listed(signatures: &[u32], platforms: &[u8], u: &[u8], pairs: Pairs, i: usize) -> bool
     requires { (i < length signatures.now) × (i < length platforms.now) × (pairs ≡ pairs_of u.now) }
     ensures { result ≡ covers_listed (list_of signatures.now platforms.now) u.now i }
 {
-    update_coverage::covers_with(u, pairs, signatures[i], bytes_dwords::wide(platforms[i]))
+    update_coverage::covers_with(u, pairs, signatures[i], u32::from(platforms[i]))
 }
 
 // Marks the listed processors that the candidate covers.
+#[tactic(auto, using(laws::specs::Arrays::filling, laws::specs::Arrays::filled_all))]
 pub fn covered(signatures: &[u32], platforms: &[u8], candidate: &[u8], pairs: Pairs) -> [bool; 8]
     requires { (length signatures.now ≤ 8) × (length signatures.now ≡ length platforms.now) × (pairs ≡ pairs_of candidate.now) }
     ensures { Covered (list_of signatures.now platforms.now) candidate.now result }
 {
     let mut marks = [false; 8];
-    let mut i: usize = 0;
-    while i < signatures.len() {
+    for i in 0..signatures.len() {
         marks[i] = covers_listed(signatures, platforms, candidate, pairs, i);
-        i += 1;
     }
     marks
 }
 
 // Is one of the first `n` marks set?
+#[tactic(auto, using(laws::specs::Loops::scan), unfolding(laws::specs::Arrays::mark_at))]
 pub fn covers_one(marks: [bool; 8], n: usize) -> bool
     requires { n ≤ 8 }
     ensures { result ≡ any_below n (mark_at marks) }
 {
-    let mut i: usize = 0;
-    while i < n {
+    for i in 0..n {
         if marks[i] {
             return true;
         }
-        i += 1;
     }
     false
 }
@@ -89,14 +82,11 @@ fn needed_for(
     requires { (i < length signatures.now) × (i < length platforms.now) × (pairs ≡ pairs_of u.now) }
     ensures { result ≡ covers_listed (list_of signatures.now platforms.now) u.now i && not mark }
 {
-    if covers_listed(signatures, platforms, u, pairs, i) {
-        if mark { false } else { true }
-    } else {
-        false
-    }
+    covers_listed(signatures, platforms, u, pairs, i) && !mark
 }
 
 // Does the update cover a listed processor that is not marked?
+#[tactic(auto, using(laws::specs::Loops::scan), unfolding(crate::specs::Covered::needed_by_marks, laws::specs::Arrays::mark_at))]
 pub fn is_needed(
     signatures: &[u32],
     platforms: &[u8],
@@ -108,12 +98,10 @@ pub fn is_needed(
     ensures { result ≡ any_below (length signatures.now) (needed_by_marks (list_of signatures.now
         platforms.now) marks u.now) }
 {
-    let mut i: usize = 0;
-    while i < signatures.len() {
+    for i in 0..signatures.len() {
         if needed_for(signatures, platforms, marks[i], u, pairs, i) {
             return true;
         }
-        i += 1;
     }
     false
 }

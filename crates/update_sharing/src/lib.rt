@@ -8,16 +8,18 @@ ghost use Rattle.update_sharing.specs.Shares.{common, pair_shares, has_signature
 
 use update_coverage::Pairs;
 
+#[tactic(auto, using(crate::proofs::ShareLaws::common_and))]
 fn common(f: u8, g: u8) -> bool
     ensures { result ≡ common f g }
 {
     f & g != 0
 }
 
+#[tactic(auto, unfolding(crate::specs::Shares::pair_shares))]
 fn pair_shares(x: u32, f: u8, y: u32, g: u8) -> bool
     ensures { result ≡ pair_shares x f y g }
 {
-    if x == y { common(f, g) } else { false }
+    x == y && common(f, g)
 }
 
 // Does pair `j` of `b` share a processor with a pair of signature `x` and flags `f`?
@@ -34,6 +36,7 @@ pub fn shares_at(x: u32, f: u8, b: &[u8], pairs: Pairs, j: u32) -> bool
 }
 
 // Has pair `j` of `b` signature `x`?
+#[tactic(auto, unfolding(crate::specs::Shares::has_signature))]
 fn has_signature(x: u32, b: &[u8], pairs: Pairs, j: u32) -> bool
     requires { (pairs ≡ pairs_of b.now) × (j < pairs.count) }
     ensures { result ≡ has_signature x b.now j }
@@ -42,16 +45,14 @@ fn has_signature(x: u32, b: &[u8], pairs: Pairs, j: u32) -> bool
 }
 
 // How many pairs of `b` have signature `x`. It takes them all, which the compiler makes faster than a search that stops.
+#[tactic(auto, using(laws::specs::Count::counting, update_coverage::proofs::PairLaws::count_is))]
 fn alike(x: u32, b: &[u8], pairs: Pairs) -> u32
     requires { pairs ≡ pairs_of b.now }
     ensures { result ≡ count_below (pair_count b.now) (has_signature x b.now) }
 {
     let mut count: u32 = 0;
-    let mut j: u32 = 0;
-    while j < pairs.count {
-        let at = j;
-        j += 1;
-        if has_signature(x, b, pairs, at) {
+    for j in 0..pairs.count {
+        if has_signature(x, b, pairs, j) {
             count += 1;
         }
     }
@@ -59,56 +60,45 @@ fn alike(x: u32, b: &[u8], pairs: Pairs) -> u32
 }
 
 // Is some processor covered by both? `p` and `q` are the readings of their headers.
+#[tactic(auto, using(crate::proofs::ShareLaws::meets), unfolding(crate::specs::Shares::shares))]
 pub fn pairs_share(a: &[u8], p: Pairs, b: &[u8], q: Pairs) -> bool
     requires { (p ≡ pairs_of a.now) × (q ≡ pairs_of b.now) }
     ensures { result ≡ shares a.now b.now }
 {
-    let mut found = false;
-    let mut i: u32 = 0;
-    'scan: while i < p.count {
+    for i in 0..p.count {
         let x = update_coverage::signature_at(a, p, i);
         let f = update_coverage::platforms_at(a, p, i);
         if alike(x, b, q) == 0 {
-            i += 1;
-        } else {
-            let mut j: u32 = 0;
-            while j < q.count {
-                if shares_at(x, f, b, q, j) {
-                    found = true;
-                    break 'scan;
-                }
-                j += 1;
+            continue;
+        }
+        for j in 0..q.count {
+            if shares_at(x, f, b, q, j) {
+                return true;
             }
-            i += 1;
         }
     }
-    found
+    false
 }
 
 // Most updates have the header's pair alone, and of two such the readings tell whether they share: their bytes needn't be looked at. Are
 // they two such?
+#[tactic(auto, unfolding(crate::specs::Shares::both_alone))]
 fn both_alone(p: Pairs, q: Pairs) -> bool
     ensures { result ≡ both_alone p q }
 {
-    if p.count == 1 { q.count == 1 } else { false }
+    p.count == 1 && q.count == 1
 }
 
 // Are they two such that don't share?
+#[tactic(auto, unfolding(crate::specs::Shares::headers_apart))]
 pub fn headers_apart(p: Pairs, q: Pairs) -> bool
     ensures { result ≡ headers_apart p q }
 {
-    if both_alone(p, q) {
-        if pair_shares(p.signature, p.platforms, q.signature, q.platforms) {
-            false
-        } else {
-            true
-        }
-    } else {
-        false
-    }
+    both_alone(p, q) && !pair_shares(p.signature, p.platforms, q.signature, q.platforms)
 }
 
 // The same as `pairs_share`; where each has one pair the readings tell.
+#[tactic(auto, using(crate::proofs::ShareLaws::one_pair))]
 pub fn shares_with(a: &[u8], p: Pairs, b: &[u8], q: Pairs) -> bool
     requires { (p ≡ pairs_of a.now) × (q ≡ pairs_of b.now) }
     ensures { result ≡ shares a.now b.now }
