@@ -2,6 +2,7 @@
 --   digest_none    of no numbers
 --   digest_next    one number more
 --   digest_four    four numbers more
+--   digest_fours   the same, by fours; digest_rest    where the fours end
 --   digest_all     up to the end
 --   index_none .. index_all    the same of the words of an index
 --   four_steps     four steps are one sum modulo 2^32 - 5
@@ -40,6 +41,12 @@ module _ (s : List ℕ) where
       let three = digest_next (i + 2) (i + 3) _ _ refl two (omega arith) in
       digest_next (i + 3) (i + 4) _ r e three (omega arith)
 
+  pub digest_fours : (k h r : ℕ) → r ≡ digest_step (digest_step (digest_step (digest_step h (slice_index s (4 * k))) (slice_index s (4 * k + 1))) (slice_index s (4 * k + 2))) (slice_index s (4 * k + 3)) → h ≡ digest_to (byte_at s) (4 * k) → r ≡ digest_to (byte_at s) (4 * (k + 1))
+  digest_fours k h r e f = let q : 4 * (k + 1) ≡ 4 * k + 4 = omega arith in rw q (digest_four (4 * k) h r e f)
+
+  pub digest_rest : (k n h : ℕ) → h ≡ digest_to (byte_at s) (4 * k) → k ≤ n / 4 → n / 4 ≤ k → h ≡ digest_to (byte_at s) (n / 4 * 4)
+  digest_rest k n h e l m = let q : n / 4 * 4 ≡ 4 * k = omega arith in rw q e
+
   pub digest_all : (i h : ℕ) → h ≡ digest_to (byte_at s) i → i ≤ length s → length s ≤ i → h ≡ digest s
   unfolding digest
   digest_all i h k l m = let e : length s ≡ i = omega arith in rw e k
@@ -56,6 +63,8 @@ module _ (x : List (List ℕ)) where
   pub index_all : (i h : ℕ) → h ≡ digest_to (word_at x) i → i ≤ 128 → 128 ≤ i → h ≡ index_digest x
   unfolding index_digest
   index_all i h k l m = let e : 128 ≡ i = omega arith in rw e k
+
+pub ruleset indexing = (index_none, index_next, index_all)
 
 two_steps : (h a b : ℕ) → digest_step (digest_step h a) b ≡ digest_step (h * 31 + a) b
 unfolding digest_step

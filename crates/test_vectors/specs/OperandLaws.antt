@@ -1,10 +1,10 @@
 -- Laws of the operands.
---   good_place                               the place of good operands is one of the 128
+--   good_place                               the place that they give is one of the 128
 --   dwords_none, dwords_more, dwords_done    the loop that reads numbers: xs has the first i of them in front
-use Rattle.std.specs.Prelude.{◌≡◌, ℕ, ◌+◌, ◌*◌, ◌<◌, ◌≤◌, Bool, true, List, [], length, take, nat_lt, slice_index, slice_set, refl}
+use Rattle.std.specs.Prelude.{◌≡◌, ℕ, ◌+◌, ◌*◌, ◌<◌, ◌≤◌, List, [], length, take, slice_index, slice_set, Some, refl}
 use Rattle.std.proofs.Common.{sym, ◌∙◌, add-one, arith, take_all, ltb-true}
 use Rattle.std.proofs.Math.Seq.{take-suc-set}
-use Rattle.laws.specs.Bools.{and_parts}
+use Rattle.std.proofs.lemmas.Option.{cond_some}
 use Rattle.bytes_dwords.specs.Dword.{dword}
 use Rattle.test_vectors.specs.declared.indexes.PutOperands.{PutOperands}
 use Rattle.test_vectors.specs.Operands.{dwords, put_operands}
@@ -21,7 +21,9 @@ module _ (b xs : List ℕ) where
   pub dwords_done : (i n : ℕ) → take i xs ≡ dwords b i → i ≤ n → n ≤ i → length xs ≡ n → xs ≡ dwords b n
   dwords_done i n e l m h = let q : i ≡ n = omega arith in sym (take_all n xs (omega arith)) ∙ (rw q at e)
 
+pub ruleset reading = (dwords_none, dwords_more, dwords_done)
+
 -- p are the operands that were read
-pub good_place : (p : PutOperands) (b : List ℕ) (good : Bool) → p ≡ put_operands b good → p.good ≡ true → p.place < 128
+pub good_place : (p : PutOperands) (b : List ℕ) → Some p ≡ put_operands b → p.place < 128
 unfolding put_operands
-good_place p b good e g = rw e (ltb-true (slice_index b 0) 128 (and_parts good (nat_lt (slice_index b 0) 128) (rw e at g)).1)
+good_place p b e = let w = cond_some _ _ _ (sym e) in rw (← w.1) (ltb-true (slice_index b 0) 128 w.0)

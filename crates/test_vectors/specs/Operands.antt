@@ -1,4 +1,4 @@
--- The operands of a step, from its bytes. They are good where all of them were read, and each is what it may be.
+-- The operands of a step, from its bytes; none where one is not what it may be.
 --   call_operands   a call: five numbers, and the loading state, 0 or 1
 --   load_operands   a load choice, through the index or not: two numbers, and the loading state
 --   after_operands  a carried index: the emptied blocks, and the candidate's start, revision and size
@@ -7,7 +7,7 @@
 --   fill_edit       equal bytes: a buffer, an offset, a count and the byte
 --   put_edit        bytes that follow: a buffer, an offset, and a count of two bytes, behind which the operands end
 --   dwords          the first n numbers of a list of bytes
-use Rattle.std.specs.Prelude.{ℕ, zero, suc, ◌*◌, Bool, true, false, ◌&&◌, List, [], ◌∷◌, ◌++◌, ◌==◌, nat_lt, slice_index}
+use Rattle.std.specs.Prelude.{ℕ, zero, suc, ◌*◌, cond, List, [], ◌∷◌, ◌++◌, ◌==◌, nat_lt, slice_index, Option, Some, None}
 use Rattle.bytes_dwords.specs.Dword.{dword}
 use Rattle.test_vectors.specs.declared.calls.CallOperands.{CallOperands}
 use Rattle.test_vectors.specs.declared.calls.LoadOperands.{LoadOperands}
@@ -16,34 +16,37 @@ use Rattle.test_vectors.specs.declared.indexes.PutOperands.{PutOperands}
 use Rattle.test_vectors.specs.declared.indexed.ReadOperands.{ReadOperands}
 use Rattle.test_vectors.specs.declared.edits.Edit.{Edit}
 
-unfoldable pub call_operands : List ℕ → Bool → CallOperands
-call_operands b good = record {
-  function = dword b 0;
-  sub_function = dword b 4;
-  task = dword b 8;
-  block = dword b 12;
-  read_back = dword b 16;
-  loading = (slice_index b 20 == 1);
-  good = good && nat_lt (slice_index b 20) 2;
-}
+unfoldable pub call_operands : List ℕ → Option CallOperands
+call_operands b =
+    cond (nat_lt (slice_index b 20) 2)
+    (Some record {
+      function = dword b 0;
+      sub_function = dword b 4;
+      task = dword b 8;
+      block = dword b 12;
+      read_back = dword b 16;
+      loading = (slice_index b 20 == 1);
+    })
+    None
 
-unfoldable pub load_operands : List ℕ → Bool → LoadOperands
-load_operands b good = record { signature = dword b 0; platform = dword b 4; loading = (slice_index b 8 == 1); good = good && nat_lt (slice_index b 8) 2 }
+unfoldable pub load_operands : List ℕ → Option LoadOperands
+load_operands b =
+    cond (nat_lt (slice_index b 8) 2) (Some record { signature = dword b 0; platform = dword b 4; loading = (slice_index b 8 == 1) }) None
 
-unfoldable pub after_operands : List ℕ → Bool → AfterOperands
-after_operands b good = record { emptied = dword b 0; start = dword b 4; revision = dword b 8; size = dword b 12; good = good }
+unfoldable pub after_operands : List ℕ → AfterOperands
+after_operands b = record { emptied = dword b 0; start = dword b 4; revision = dword b 8; size = dword b 12 }
 
-unfoldable pub put_operands : List ℕ → Bool → PutOperands
-put_operands b good = record { place = slice_index b 0; number = dword b 1; good = good && nat_lt (slice_index b 0) 128 }
+unfoldable pub put_operands : List ℕ → Option PutOperands
+put_operands b = cond (nat_lt (slice_index b 0) 128) (Some record { place = slice_index b 0; number = dword b 1 }) None
 
-unfoldable pub read_operands : List ℕ → Bool → ReadOperands
-read_operands b good = record { block = dword b 0; good = good }
+unfoldable pub read_operands : List ℕ → ReadOperands
+read_operands b = record { block = dword b 0 }
 
-unfoldable pub fill_edit : List ℕ → Bool → Edit
-fill_edit b good = record { buffer = slice_index b 0; offset = dword b 1; count = dword b 5; follow = false; byte = slice_index b 9; good = good }
+unfoldable pub fill_edit : List ℕ → Edit
+fill_edit b = record { buffer = slice_index b 0; offset = dword b 1; count = dword b 5; byte = Some (slice_index b 9) }
 
-unfoldable pub put_edit : List ℕ → Bool → Edit
-put_edit b good = record { buffer = slice_index b 0; offset = dword b 1; count = dword b 5; follow = true; byte = 0; good = good }
+unfoldable pub put_edit : List ℕ → Edit
+put_edit b = record { buffer = slice_index b 0; offset = dword b 1; count = dword b 5; byte = None }
 
 unfoldable pub dwords : List ℕ → ℕ → List ℕ
 dwords b zero = []

@@ -1,4 +1,4 @@
-// The buffers and lists that the steps set. Each has room for more than the calls accept.
+// The buffers, the lists and the index that the steps set. Each buffer and list has room for more than the calls accept.
 use store_blocks::MOST_BLOCKS;
 use store_index::COLUMNS;
 
@@ -24,3 +24,13 @@ pub type Signatures = [u32; LIST];
 pub type Platforms = [u8; LIST];
 
 pub type Index = [[u32; MOST_BLOCKS]; COLUMNS];
+
+#[derive(Drop)]
+pub struct Memory {
+    pub store: Store,
+    pub candidate: Candidate,
+    pub destination: Destination,
+    pub signatures: Signatures,
+    pub platforms: Platforms,
+    pub index: Index,
+}

@@ -1,10 +1,10 @@
 // The steps that make a call. Each writes a line.
 ghost use Rattle.std.specs.Prelude.{◌≡◌, ◌≤◌, ◌++◌, length, take, drop, IfOk};
-ghost use Rattle.test_vectors.specs.RunState.{Within};
+ghost use Rattle.test_vectors.specs.RunState.{Within, Kept};
 ghost use Rattle.test_vectors.specs.Operands.{call_operands, load_operands};
 ghost use Rattle.test_vectors.specs.CallLine.{buffers, parts, store_after, destination_after, call_line, load_line};
 
-use crate::buffers::{Candidate, Destination, Platforms, Signatures, Store};
+use crate::buffers::Memory;
 use crate::lines::Line;
 use crate::state::State;
 use crate::{digest, input, lines, state};
@@ -20,7 +20,6 @@ pub struct CallOperands {
     pub block: u32,
     pub read_back: u32,
     pub loading: bool,
-    pub good: bool,
 }
 
 // The operands of a load choice.
@@ -29,35 +28,36 @@ pub struct LoadOperands {
     pub signature: u32,
     pub platform: u32,
     pub loading: bool,
-    pub good: bool,
 }
 
-fn call_operands(b: &[u8; 21], good: bool) -> CallOperands
-    ensures { result ≡ call_operands b.now good }
+// None where the loading state is no such.
+#[tactic(auto, unfolding(crate::specs::Operands::call_operands))]
+fn call_operands(b: &[u8; 21]) -> Option<CallOperands>
+    ensures { result ≡ call_operands b.now }
 {
-    CallOperands {
+    (b[20] < 2).then_some(CallOperands {
         function: bytes_dwords::dword(b, 0),
         sub_function: bytes_dwords::dword(b, 4),
         task: bytes_dwords::dword(b, 8),
         block: bytes_dwords::dword(b, 12),
         read_back: bytes_dwords::dword(b, 16),
         loading: b[20] == 1,
-        good: good && b[20] < 2,
-    }
+    })
 }
 
-pub fn load_operands(b: &[u8; 9], good: bool) -> LoadOperands
-    ensures { result ≡ load_operands b.now good }
+#[tactic(auto, unfolding(crate::specs::Operands::load_operands))]
+pub fn load_operands(b: &[u8; 9]) -> Option<LoadOperands>
+    ensures { result ≡ load_operands b.now }
 {
-    LoadOperands {
+    (b[8] < 2).then_some(LoadOperands {
         signature: bytes_dwords::dword(b, 0),
         platform: bytes_dwords::dword(b, 4),
         loading: b[8] == 1,
-        good: good && b[8] < 2,
-    }
+    })
 }
 
 // A call, and the line that tells of it.
+#[tactic(auto, unfolding(crate::specs::CallLine::reply_to, crate::specs::CallLine::store_after, crate::specs::CallLine::destination_after, crate::specs::CallLine::call_line))]
 fn call_line(
     c: CallOperands,
     store: &mut [u8],
@@ -100,6 +100,7 @@ fn call_line(
 }
 
 // A load choice, and the line that tells of it.
+#[tactic(auto, unfolding(crate::specs::CallLine::load_line))]
 fn load_line(l: LoadOperands, store: &[u8], destination: &[u8]) -> Line
     ensures { result ≡ load_line l store.now destination.now }
 {
@@ -166,42 +167,45 @@ pub fn call<P: Print, R: Read>(
     out: &P,
     reader: &mut R,
     s: State,
-    store: &mut Store,
-    candidate: &Candidate,
-    destination: &mut Destination,
-    signatures: &Signatures,
-    platforms: &Platforms,
-) -> io::Result<State>
+    memory: &mut Memory,
+) -> io::Result<Option<State>>
     requires { Within s }
-    ensures { IfOk result Within }
+    ensures { IfOk result Kept }
 {
-    let mut b = [0u8; 21];
-    let good = input::read_all(reader, &mut b)?;
-    let c = call_operands(&b, good);
-    if !c.good {
-        return Ok(state::judged(s, false));
-    }
-    let line = call_with(s, c, store, signatures, platforms, candidate, destination);
+    let Some(b) = input::read_array::<21, R>(reader)? else {
+        return Ok(None);
+    };
+    let Some(c) = call_operands(&b) else {
+        return Ok(None);
+    };
+    let line = call_with(
+        s,
+        c,
+        &mut memory.store,
+        &memory.signatures,
+        &memory.platforms,
+        &memory.candidate,
+        &mut memory.destination,
+    );
     lines::write(out, line)?;
-    Ok(state::called(s))
+    Ok(Some(state::called(s)))
 }
 
 pub fn load<P: Print, R: Read>(
     out: &P,
     reader: &mut R,
     s: State,
-    store: &Store,
-    destination: &Destination,
-) -> io::Result<State>
+    memory: &Memory,
+) -> io::Result<Option<State>>
     requires { Within s }
-    ensures { IfOk result Within }
+    ensures { IfOk result Kept }
 {
-    let mut b = [0u8; 9];
-    let good = input::read_all(reader, &mut b)?;
-    let l = load_operands(&b, good);
-    if !l.good {
-        return Ok(state::judged(s, false));
-    }
-    lines::write(out, load_with(s, l, store, destination))?;
-    Ok(state::called(s))
+    let Some(b) = input::read_array::<9, R>(reader)? else {
+        return Ok(None);
+    };
+    let Some(l) = load_operands(&b) else {
+        return Ok(None);
+    };
+    lines::write(out, load_with(s, l, &memory.store, &memory.destination))?;
+    Ok(Some(state::called(s)))
 }

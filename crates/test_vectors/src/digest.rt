@@ -7,6 +7,7 @@ use store_blocks::MOST_BLOCKS;
 
 const MODULUS: u64 = 4294967291;
 
+#[tactic(auto, unfolding(crate::specs::Digest::digest_step))]
 fn step(h: u64, number: u32) -> u64
     requires { h < modulus }
     ensures { (result ≡ digest_step h number) × (result < modulus) }
@@ -15,6 +16,7 @@ fn step(h: u64, number: u32) -> u64
 }
 
 // Four steps with one division.
+#[tactic(auto, using(crate::specs::DigestLaws::four_steps))]
 fn four(h: u64, a: u8, b: u8, c: u8, d: u8) -> u64
     requires { h < modulus }
     ensures { (result ≡ digest_step (digest_step (digest_step (digest_step h a) b) c) d) × (result < modulus) }
@@ -28,27 +30,24 @@ pub fn digest(s: &[u8]) -> u32
 {
     let n = s.len();
     let mut h: u64 = 1;
-    let mut i: usize = 0;
-    while n - i >= 4 {
+    for k in 0..n / 4 {
+        let i = 4 * k;
         h = four(h, s[i], s[i + 1], s[i + 2], s[i + 3]);
-        i += 4;
     }
-    while i < n {
-        h = step(h, bytes_dwords::wide(s[i]));
-        i += 1;
+    for i in n / 4 * 4..n {
+        h = step(h, s[i] as u32);
     }
     h as u32
 }
 
 // The digest of the numbers of an index.
+#[tactic(auto, using(crate::specs::DigestLaws::indexing))]
 pub fn numbers(x: &Index) -> u32
     ensures { result ≡ index_digest x.now }
 {
     let mut h: u64 = 1;
-    let mut i: usize = 0;
-    while i < INDEX {
+    for i in 0..INDEX {
         h = step(h, x[i / MOST_BLOCKS][i % MOST_BLOCKS]);
-        i += 1;
     }
     h as u32
 }

@@ -1,11 +1,11 @@
 // The steps that set bytes of a buffer.
 ghost use Rattle.std.specs.Prelude.{◌≡◌, ◌+◌, ◌≤◌, length, replicate, IfOk};
 ghost use Rattle.bytes_copy.specs.Paste.{put_at};
-ghost use Rattle.test_vectors.specs.RunState.{judged, Within};
+ghost use Rattle.test_vectors.specs.RunState.{judged, Within, Kept};
 ghost use Rattle.test_vectors.specs.Operands.{fill_edit, put_edit};
 ghost use Rattle.test_vectors.specs.Edits.{fits, edited, edited_by, edit_good};
 
-use crate::buffers::{Candidate, Destination, Store};
+use crate::buffers::{Candidate, Destination, Memory, Store};
 use crate::state::State;
 use crate::{input, state};
 use std::io;
@@ -16,65 +16,58 @@ const FOLLOWING: usize = 1024;
 
 type Following = [u8; FOLLOWING];
 
-// Bytes to be set: to those that follow in the input, or all to one byte.
+// Bytes to be set: all to one byte, or where there is none, to those that follow in the input.
 #[derive(Clone, Copy)]
 pub struct Edit {
     pub buffer: u8,
     pub offset: u32,
     pub count: u32,
-    pub follow: bool,
-    pub byte: u8,
-    pub good: bool,
+    pub byte: Option<u8>,
 }
 
 // The edit of opcode 2, of its ten bytes.
-fn fill_edit(b: &[u8; 10], good: bool) -> Edit
-    ensures { result ≡ fill_edit b.now good }
+#[tactic(auto, unfolding(crate::specs::Operands::fill_edit))]
+fn fill_edit(b: &[u8; 10]) -> Edit
+    ensures { result ≡ fill_edit b.now }
 {
     Edit {
         buffer: b[0],
         offset: bytes_dwords::dword(b, 1),
         count: bytes_dwords::dword(b, 5),
-        follow: false,
-        byte: b[9],
-        good,
+        byte: Some(b[9]),
     }
 }
 
 // The edit of opcode 3, of its seven bytes. The count has two bytes, behind which the operands end.
-fn put_edit(b: &[u8; 7], good: bool) -> Edit
-    ensures { result ≡ put_edit b.now good }
+#[tactic(auto, unfolding(crate::specs::Operands::put_edit))]
+fn put_edit(b: &[u8; 7]) -> Edit
+    ensures { result ≡ put_edit b.now }
 {
     Edit {
         buffer: b[0],
         offset: bytes_dwords::dword(b, 1),
         count: bytes_dwords::dword(b, 5),
-        follow: true,
-        byte: 0,
-        good,
+        byte: None,
     }
 }
 
-// Reads the edit of opcode 2.
-fn read_fill<R: Read>(reader: &mut R) -> io::Result<Edit> {
-    let mut b = [0u8; 10];
-    let good = input::read_all(reader, &mut b)?;
-    Ok(fill_edit(&b, good))
+// Reads the edit of opcode 2; none where the input ends before.
+fn read_fill<R: Read>(reader: &mut R) -> io::Result<Option<Edit>> {
+    Ok(input::read_array::<10, R>(reader)?.map(|b| fill_edit(&b)))
 }
 
-// Reads the edit of opcode 3, and the bytes that follow.
-fn read_put<R: Read>(reader: &mut R, bytes: &mut Following) -> io::Result<Edit> {
-    let mut b = [0u8; 7];
-    let good = input::read_all(reader, &mut b)?;
-    let e = put_edit(&b, good);
+// Reads the edit of opcode 3, and the bytes that follow; none where they are too many, or the input ends before.
+fn read_put<R: Read>(reader: &mut R, bytes: &mut Following) -> io::Result<Option<Edit>> {
+    let Some(b) = input::read_array::<7, R>(reader)? else {
+        return Ok(None);
+    };
+    let e = put_edit(&b);
     let all = input::read_part(reader, bytes, 0, e.count)?;
-    let mut r = e;
-    r.good = e.good && all;
-    Ok(r)
+    Ok(all.then_some(e))
 }
 
 // Reads the edit of opcode 2, or of opcode 3.
-fn read<R: Read>(reader: &mut R, op: u32, bytes: &mut Following) -> io::Result<Edit> {
+fn read<R: Read>(reader: &mut R, op: u8, bytes: &mut Following) -> io::Result<Option<Edit>> {
     if op == 2 {
         read_fill(reader)
     } else {
@@ -83,18 +76,18 @@ fn read<R: Read>(reader: &mut R, op: u32, bytes: &mut Following) -> io::Result<E
 }
 
 // Sets `n` bytes from `at` on to one byte.
+#[tactic(auto, using(crate::specs::EditLaws::filling))]
 fn fill(buf: &mut [u8], at: usize, n: usize, byte: u8)
     requires { at + n ≤ length buf.old }
     ensures { buf.new ≡ put_at buf.old at (replicate n byte) n }
 {
-    let mut i: usize = 0;
-    while i < n {
+    for i in 0..n {
         buf[at + i] = byte;
-        i += 1;
     }
 }
 
 // Sets a part of a buffer: false where the buffer has no such part.
+#[tactic(auto, unfolding(crate::specs::Edits::fits, crate::specs::Edits::edited, crate::specs::Edits::source))]
 fn set(buf: &mut [u8], e: Edit, bytes: &Following) -> bool
     ensures answers { result ≡ fits e buf.old }
     ensures sets { buf.new ≡ edited e bytes.now buf.old }
@@ -104,18 +97,23 @@ fn set(buf: &mut [u8], e: Edit, bytes: &Following) -> bool
     if at + n > buf.len() {
         return false;
     }
-    if e.follow {
-        if n > FOLLOWING {
-            return false;
+    match e.byte {
+        Some(byte) => {
+            fill(buf, at, n, byte);
+            true
         }
-        bytes_copy::put(buf, at, bytes, n);
-        return true;
+        None => {
+            if n > FOLLOWING {
+                return false;
+            }
+            bytes_copy::put(buf, at, bytes, n);
+            true
+        }
     }
-    fill(buf, at, n, e.byte);
-    true
 }
 
 // Sets a part of the buffer that the edit names.
+#[tactic(auto, unfolding(crate::specs::Edits::edit_good, crate::specs::Edits::edited_by, crate::specs::Edits::sets))]
 fn make(
     s: State,
     e: Edit,
@@ -123,38 +121,41 @@ fn make(
     store: &mut Store,
     candidate: &mut Candidate,
     destination: &mut Destination,
-) -> State
+) -> Option<State>
     ensures judges { result ≡ judged s (edit_good e store.old candidate.old destination.old) }
     ensures store { store.new ≡ edited_by e 0 bytes.now store.old }
     ensures candidate { candidate.new ≡ edited_by e 1 bytes.now candidate.old }
     ensures destination { destination.new ≡ edited_by e 2 bytes.now destination.old }
 {
-    if e.good {
-        let buffer = e.buffer;
-        match buffer {
-            0 => state::judged(s, set(store, e, bytes)),
-            1 => state::judged(s, set(candidate, e, bytes)),
-            2 => state::judged(s, set(destination, e, bytes)),
-            _ => state::judged(s, false),
-        }
-    } else {
-        state::judged(s, false)
+    match e.buffer {
+        0 => state::judged(s, set(store, e, bytes)),
+        1 => state::judged(s, set(candidate, e, bytes)),
+        2 => state::judged(s, set(destination, e, bytes)),
+        _ => None,
     }
 }
 
 // The step of opcode 2, or of opcode 3.
+#[tactic(auto, using(crate::specs::RunStateLaws::kept_within))]
 pub fn step<R: Read>(
     reader: &mut R,
-    op: u32,
+    op: u8,
     s: State,
-    store: &mut Store,
-    candidate: &mut Candidate,
-    destination: &mut Destination,
-) -> io::Result<State>
+    memory: &mut Memory,
+) -> io::Result<Option<State>>
     requires { Within s }
-    ensures { IfOk result Within }
+    ensures { IfOk result Kept }
 {
     let mut bytes = [0u8; FOLLOWING];
-    let e = read(reader, op, &mut bytes)?;
-    Ok(make(s, e, &bytes, store, candidate, destination))
+    let Some(e) = read(reader, op, &mut bytes)? else {
+        return Ok(None);
+    };
+    Ok(make(
+        s,
+        e,
+        &bytes,
+        &mut memory.store,
+        &mut memory.candidate,
+        &mut memory.destination,
+    ))
 }

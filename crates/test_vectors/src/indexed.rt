@@ -1,10 +1,10 @@
 // The steps that make a call through the index. Each writes a line.
 ghost use Rattle.std.specs.Prelude.{◌≡◌, ◌≤◌, ◌++◌, length, take, drop, IfOk};
-ghost use Rattle.test_vectors.specs.RunState.{Within};
+ghost use Rattle.test_vectors.specs.RunState.{Within, Kept};
 ghost use Rattle.test_vectors.specs.Operands.{read_operands};
 ghost use Rattle.test_vectors.specs.IndexedLine.{read_destination, read_line, load_indexed_line};
 
-use crate::buffers::{Destination, Index, Store};
+use crate::buffers::{Index, Memory};
 use crate::calls::LoadOperands;
 use crate::lines::Line;
 use crate::state::State;
@@ -16,19 +16,19 @@ use std::io::{Print, Read};
 #[derive(Clone, Copy)]
 pub struct ReadOperands {
     pub block: u32,
-    pub good: bool,
 }
 
-fn read_operands(b: &[u8; 4], good: bool) -> ReadOperands
-    ensures { result ≡ read_operands b.now good }
+#[tactic(auto, unfolding(crate::specs::Operands::read_operands))]
+fn read_operands(b: &[u8; 4]) -> ReadOperands
+    ensures { result ≡ read_operands b.now }
 {
     ReadOperands {
         block: bytes_dwords::dword(b, 0),
-        good,
     }
 }
 
 // A read, and the line that tells of it.
+#[tactic(auto, unfolding(crate::specs::IndexedLine::read_answer, crate::specs::IndexedLine::read_destination, crate::specs::IndexedLine::read_line))]
 fn read_line(c: ReadOperands, index: &Index, store: &[u8], destination: &mut [u8]) -> Line
     ensures tells { result ≡ read_line c index.now store.now destination.old }
     ensures copies { destination.new ≡
@@ -45,6 +45,7 @@ fn read_line(c: ReadOperands, index: &Index, store: &[u8], destination: &mut [u8
 }
 
 // A load choice, and the line that tells of it.
+#[tactic(auto, unfolding(crate::specs::IndexedLine::choice_by, crate::specs::IndexedLine::load_indexed_line))]
 fn load_line(l: LoadOperands, index: &Index, store: &[u8], destination: &[u8]) -> Line
     ensures { result ≡ load_indexed_line l index.now store.now destination.now }
 {
@@ -94,40 +95,41 @@ pub fn read<P: Print, R: Read>(
     out: &P,
     reader: &mut R,
     s: State,
-    index: &Index,
-    store: &Store,
-    destination: &mut Destination,
-) -> io::Result<State>
+    memory: &mut Memory,
+) -> io::Result<Option<State>>
     requires { Within s }
-    ensures { IfOk result Within }
+    ensures { IfOk result Kept }
 {
-    let mut b = [0u8; 4];
-    let good = input::read_all(reader, &mut b)?;
-    let c = read_operands(&b, good);
-    if !c.good {
-        return Ok(state::judged(s, false));
-    }
-    lines::write(out, read_with(s, c, index, store, destination))?;
-    Ok(state::called(s))
+    let Some(b) = input::read_array::<4, R>(reader)? else {
+        return Ok(None);
+    };
+    let line = read_with(
+        s,
+        read_operands(&b),
+        &memory.index,
+        &memory.store,
+        &mut memory.destination,
+    );
+    lines::write(out, line)?;
+    Ok(Some(state::called(s)))
 }
 
 pub fn load<P: Print, R: Read>(
     out: &P,
     reader: &mut R,
     s: State,
-    index: &Index,
-    store: &Store,
-    destination: &Destination,
-) -> io::Result<State>
+    memory: &Memory,
+) -> io::Result<Option<State>>
     requires { Within s }
-    ensures { IfOk result Within }
+    ensures { IfOk result Kept }
 {
-    let mut b = [0u8; 9];
-    let good = input::read_all(reader, &mut b)?;
-    let l = calls::load_operands(&b, good);
-    if !l.good {
-        return Ok(state::judged(s, false));
-    }
-    lines::write(out, load_with(s, l, index, store, destination))?;
-    Ok(state::called(s))
+    let Some(b) = input::read_array::<9, R>(reader)? else {
+        return Ok(None);
+    };
+    let Some(l) = calls::load_operands(&b) else {
+        return Ok(None);
+    };
+    let line = load_with(s, l, &memory.index, &memory.store, &memory.destination);
+    lines::write(out, line)?;
+    Ok(Some(state::called(s)))
 }

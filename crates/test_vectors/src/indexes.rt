@@ -1,10 +1,10 @@
 // The steps that set the index: it is made from the store, carried over a write, or put number by number.
 ghost use Rattle.std.specs.Prelude.{◌≡◌, ◌<◌, ◌≤◌, length, take, IfOk};
-ghost use Rattle.test_vectors.specs.RunState.{Within};
+ghost use Rattle.test_vectors.specs.RunState.{Within, Kept};
 ghost use Rattle.test_vectors.specs.Operands.{after_operands, put_operands};
 ghost use Rattle.test_vectors.specs.IndexLine.{made_index, carried_index, with_word, make_line, after_line};
 
-use crate::buffers::{Destination, Index, Store};
+use crate::buffers::{Index, Memory};
 use crate::lines::{IndexLine, Line};
 use crate::state::State;
 use crate::{digest, input, lines, state};
@@ -19,7 +19,6 @@ pub struct AfterOperands {
     pub start: u32,
     pub revision: u32,
     pub size: u32,
-    pub good: bool,
 }
 
 // The operands of a number of the index.
@@ -27,32 +26,33 @@ pub struct AfterOperands {
 pub struct PutOperands {
     pub place: u8,
     pub number: u32,
-    pub good: bool,
 }
 
-fn after_operands(b: &[u8; 16], good: bool) -> AfterOperands
-    ensures { result ≡ after_operands b.now good }
+#[tactic(auto, unfolding(crate::specs::Operands::after_operands))]
+fn after_operands(b: &[u8; 16]) -> AfterOperands
+    ensures { result ≡ after_operands b.now }
 {
     AfterOperands {
         emptied: bytes_dwords::dword(b, 0),
         start: bytes_dwords::dword(b, 4),
         revision: bytes_dwords::dword(b, 8),
         size: bytes_dwords::dword(b, 12),
-        good,
     }
 }
 
-fn put_operands(b: &[u8; 5], good: bool) -> PutOperands
-    ensures { result ≡ put_operands b.now good }
+// None where the index has no such place.
+#[tactic(auto, unfolding(crate::specs::Operands::put_operands))]
+fn put_operands(b: &[u8; 5]) -> Option<PutOperands>
+    ensures { result ≡ put_operands b.now }
 {
-    PutOperands {
+    (b[0] < 128).then_some(PutOperands {
         place: b[0],
         number: bytes_dwords::dword(b, 1),
-        good: good && b[0] < 128,
-    }
+    })
 }
 
 // The index of the store, and the line that tells of it.
+#[tactic(auto, unfolding(crate::specs::IndexLine::made_index, crate::specs::IndexLine::make_line))]
 fn make_line(store: &[u8], destination: &[u8], index: &mut Index) -> IndexLine
     ensures tells { result ≡ make_line store.now destination.now }
     ensures makes { index.new ≡ made_index store.now }
@@ -72,6 +72,7 @@ fn make_line(store: &[u8], destination: &[u8], index: &mut Index) -> IndexLine
 }
 
 // The index after a write, from the old one, and the line that tells of it.
+#[tactic(auto, unfolding(crate::specs::IndexLine::carried_index, crate::specs::IndexLine::after_line))]
 fn after_line(
     c: AfterOperands,
     store: &[u8],
@@ -143,52 +144,48 @@ fn set_number(index: &mut Index, p: PutOperands)
     index[place / MOST_BLOCKS][place % MOST_BLOCKS] = p.number;
 }
 
-pub fn make<P: Print>(
-    out: &P,
-    s: State,
-    store: &Store,
-    destination: &Destination,
-    index: &mut Index,
-) -> io::Result<State>
+pub fn make<P: Print>(out: &P, s: State, memory: &mut Memory) -> io::Result<Option<State>>
     requires { Within s }
-    ensures { IfOk result Within }
+    ensures { IfOk result Kept }
 {
-    lines::write_index(out, make_with(s, store, destination, index))?;
-    Ok(state::called(s))
+    let line = make_with(s, &memory.store, &memory.destination, &mut memory.index);
+    lines::write_index(out, line)?;
+    Ok(Some(state::called(s)))
 }
 
 pub fn after<P: Print, R: Read>(
     out: &P,
     reader: &mut R,
     s: State,
-    store: &Store,
-    destination: &Destination,
-    index: &mut Index,
-) -> io::Result<State>
+    memory: &mut Memory,
+) -> io::Result<Option<State>>
     requires { Within s }
-    ensures { IfOk result Within }
+    ensures { IfOk result Kept }
 {
-    let mut b = [0u8; 16];
-    let good = input::read_all(reader, &mut b)?;
-    let c = after_operands(&b, good);
-    if !c.good {
-        return Ok(state::judged(s, false));
-    }
-    lines::write_index(out, after_with(s, c, store, destination, index))?;
-    Ok(state::called(s))
+    let Some(b) = input::read_array::<16, R>(reader)? else {
+        return Ok(None);
+    };
+    let line = after_with(
+        s,
+        after_operands(&b),
+        &memory.store,
+        &memory.destination,
+        &mut memory.index,
+    );
+    lines::write_index(out, line)?;
+    Ok(Some(state::called(s)))
 }
 
-pub fn put<R: Read>(reader: &mut R, s: State, index: &mut Index) -> io::Result<State>
+pub fn put<R: Read>(reader: &mut R, s: State, memory: &mut Memory) -> io::Result<Option<State>>
     requires { Within s }
-    ensures { IfOk result Within }
+    ensures { IfOk result Kept }
 {
-    let mut b = [0u8; 5];
-    let good = input::read_all(reader, &mut b)?;
-    let p = put_operands(&b, good);
-    if p.good {
-        set_number(index, p);
-        Ok(s)
-    } else {
-        Ok(state::judged(s, false))
-    }
+    let Some(b) = input::read_array::<5, R>(reader)? else {
+        return Ok(None);
+    };
+    let Some(p) = put_operands(&b) else {
+        return Ok(None);
+    };
+    set_number(&mut memory.index, p);
+    Ok(Some(s))
 }

@@ -2,9 +2,6 @@
 use std::io;
 use std::io::{ErrorKind, Read};
 
-// What is read at the end of the input. It is no byte.
-pub const END: u32 = 256;
-
 // Reads a whole buffer: false where the input ends before.
 pub fn read_all<R: Read>(reader: &mut R, buf: &mut [u8]) -> io::Result<bool> {
     match reader.read_exact(buf) {
@@ -14,14 +11,16 @@ pub fn read_all<R: Read>(reader: &mut R, buf: &mut [u8]) -> io::Result<bool> {
     }
 }
 
-// The next byte, or END.
-pub fn read_byte<R: Read>(reader: &mut R) -> io::Result<u32> {
-    let mut b = [0u8; 1];
-    if read_all(reader, &mut b)? {
-        Ok(bytes_dwords::dword(&b, 0))
-    } else {
-        Ok(END)
-    }
+// The next N bytes, or none where the input ends before.
+pub fn read_array<const N: usize, R: Read>(reader: &mut R) -> io::Result<Option<[u8; N]>> {
+    let mut b = [0u8; N];
+    let whole = read_all(reader, &mut b)?;
+    Ok(whole.then_some(b))
+}
+
+// The next byte, or none at the end of the input.
+pub fn read_byte<R: Read>(reader: &mut R) -> io::Result<Option<u8>> {
+    Ok(read_array::<1, R>(reader)?.map(|b| b[0]))
 }
 
 // Reads a part of a buffer: false where it has no such part, or where the input ends before.

@@ -40,12 +40,13 @@ pub fn write_index<P: Print>(out: &P, made: IndexLine) -> io::Result<()> {
     test_output::text(out, b"\n")
 }
 
-// The line behind the last step.
-pub fn last<P: Print>(out: &P, s: State) -> io::Result<()> {
-    if s.good {
-        test_output::number(out, b"", s.calls)?;
-        test_output::text(out, b" calls\n")
-    } else {
-        test_output::text(out, b"bad vectors\n")
+// The line behind the last step, after which there is no state where it broke a bound.
+pub fn last<P: Print>(out: &P, last: Option<State>) -> io::Result<()> {
+    match last {
+        Some(s) => {
+            test_output::number(out, b"", s.calls)?;
+            test_output::text(out, b" calls\n")
+        }
+        None => test_output::text(out, b"bad vectors\n"),
     }
 }

@@ -1,69 +1,63 @@
 // The step that sets the list of processors: signatures, then platforms.
 ghost use Rattle.std.specs.Prelude.{◌≡◌, IfOk};
 ghost use Rattle.test_vectors.specs.Operands.{dwords};
-ghost use Rattle.test_vectors.specs.RunState.{with_lengths, Within};
+ghost use Rattle.test_vectors.specs.RunState.{with_lengths, Within, Kept};
 
-use crate::buffers::{LIST, Platforms, Signatures};
+use crate::buffers::{LIST, Memory, Signatures};
+use crate::input;
 use crate::state::State;
-use crate::{input, state};
 use std::io;
 use std::io::Read;
 
 // The 16 numbers of 64 bytes.
+#[tactic(auto, using(crate::specs::OperandLaws::reading))]
 fn dwords(b: &[u8; 64]) -> Signatures
     ensures { result ≡ dwords b.now 16 }
 {
     let mut list = [0u32; LIST];
-    let mut i: usize = 0;
-    while i < LIST {
+    for i in 0..LIST {
         list[i] = bytes_dwords::dword(b, 4 * i);
-        i += 1;
     }
     list
 }
 
 // Reads the first `m` signatures: false where the list has no room for them, or where the input ends before.
-fn read_signatures<R: Read>(reader: &mut R, list: &mut Signatures, m: u32) -> io::Result<bool> {
+fn read_signatures<R: Read>(reader: &mut R, list: &mut Signatures, m: u8) -> io::Result<bool> {
     if m > 16 {
         return Ok(false);
     }
     let mut b = [0u8; 64];
-    let good = input::read_part(reader, &mut b, 0, 4 * m)?;
+    let good = input::read_part(reader, &mut b, 0, 4 * u32::from(m))?;
     *list = dwords(&b);
     Ok(good)
 }
 
-// The state with other lengths of the lists.
-fn with_lengths(s: State, signatures: u32, platforms: u32, good: bool) -> State
+// The state with other lengths of the lists; none where there is no room for one, or they weren't read.
+#[tactic(auto, unfolding(crate::specs::RunState::with_lengths))]
+fn with_lengths(s: State, signatures: u8, platforms: u8, good: bool) -> Option<State>
     ensures { result ≡ with_lengths s signatures platforms good }
 {
-    let m = signatures as usize;
-    let n = platforms as usize;
-    if m > LIST {
-        return state::judged(s, false);
-    }
-    if n > LIST {
-        return state::judged(s, false);
-    }
-    let mut r = s;
-    r.good = good;
-    r.signatures = m;
-    r.platforms = n;
-    r
+    let m = usize::from(signatures);
+    let n = usize::from(platforms);
+    (good && m <= LIST && n <= LIST).then_some(State {
+        signatures: m,
+        platforms: n,
+        ..s
+    })
 }
 
-pub fn list<R: Read>(
-    reader: &mut R,
-    s: State,
-    signatures: &mut Signatures,
-    platforms: &mut Platforms,
-) -> io::Result<State>
+#[tactic(auto, using(crate::specs::RunStateLaws::kept_within))]
+pub fn list<R: Read>(reader: &mut R, s: State, memory: &mut Memory) -> io::Result<Option<State>>
     requires { Within s }
-    ensures { IfOk result Within }
+    ensures { IfOk result Kept }
 {
-    let m = input::read_byte(reader)?;
-    let some = read_signatures(reader, signatures, m)?;
-    let n = input::read_byte(reader)?;
-    let all = input::read_part(reader, platforms, 0, n)?;
+    let Some(m) = input::read_byte(reader)? else {
+        return Ok(None);
+    };
+    let some = read_signatures(reader, &mut memory.signatures, m)?;
+    let Some(n) = input::read_byte(reader)? else {
+        return Ok(None);
+    };
+    let all = input::read_part(reader, &mut memory.platforms, 0, u32::from(n))?;
     Ok(with_lengths(s, m, n, some && all))
 }

@@ -14,28 +14,21 @@ mod lists;
 mod run;
 mod state;
 
-use crate::buffers::{CANDIDATE, DESTINATION, LIST, STORE};
+use crate::buffers::{CANDIDATE, DESTINATION, LIST, Memory, STORE};
 use std::io;
 use store_blocks::MOST_BLOCKS;
 use store_index::COLUMNS;
 
 fn main(rt: HostRuntime) -> io::Result<()> {
-    let mut store = [0u8; STORE];
-    let mut candidate = [0u8; CANDIDATE];
-    let mut destination = [0u8; DESTINATION];
-    let mut signatures = [0u32; LIST];
-    let mut platforms = [0u8; LIST];
-    let mut index = [[0u32; MOST_BLOCKS]; COLUMNS];
+    let mut memory = Memory {
+        store: [0; STORE],
+        candidate: [0; CANDIDATE],
+        destination: [0; DESTINATION],
+        signatures: [0; LIST],
+        platforms: [0; LIST],
+        index: [[0; MOST_BLOCKS]; COLUMNS],
+    };
     let mut reader = rt.stdin();
-    let last = run::run(
-        &rt,
-        &mut reader,
-        &mut store,
-        &mut candidate,
-        &mut destination,
-        &mut signatures,
-        &mut platforms,
-        &mut index,
-    )?;
+    let last = run::run(&rt, &mut reader, &mut memory)?;
     lines::last(&rt, last)
 }

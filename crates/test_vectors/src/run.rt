@@ -12,51 +12,37 @@
 //  11  a load choice      signature u32, platform u32, loading u8; through the index
 // Buffer 0 is the store, 1 the candidate, 2 the destination. They begin as zeros of length 0, and the index as 128 zeros.
 ghost use Rattle.std.specs.Prelude.{IfOk};
-ghost use Rattle.test_vectors.specs.RunState.{Within};
+ghost use Rattle.test_vectors.specs.RunState.{Within, Kept};
 
-use crate::buffers::{Candidate, Destination, Index, Platforms, Signatures, Store};
+use crate::buffers::Memory;
 use crate::state::State;
 use crate::{calls, edits, indexed, indexes, input, lengths, lists, state};
 use std::io;
 use std::io::{Print, Read};
 
-// The step with an opcode.
+// The step with an opcode. There is no state after one that breaks a bound.
 fn step<P: Print, R: Read>(
     out: &P,
     reader: &mut R,
-    op: u32,
+    op: u8,
     s: State,
-    store: &mut Store,
-    candidate: &mut Candidate,
-    destination: &mut Destination,
-    signatures: &mut Signatures,
-    platforms: &mut Platforms,
-    index: &mut Index,
-) -> io::Result<State>
+    memory: &mut Memory,
+) -> io::Result<Option<State>>
     requires { Within s }
-    ensures { IfOk result Within }
+    ensures { IfOk result Kept }
 {
     match op {
         1 => lengths::length(reader, s),
-        2 | 3 => edits::step(reader, op, s, store, candidate, destination),
-        4 => lists::list(reader, s, signatures, platforms),
-        5 => calls::call(
-            out,
-            reader,
-            s,
-            store,
-            candidate,
-            destination,
-            signatures,
-            platforms,
-        ),
-        6 => calls::load(out, reader, s, store, destination),
-        7 => indexes::make(out, s, store, destination, index),
-        8 => indexes::after(out, reader, s, store, destination, index),
-        9 => indexes::put(reader, s, index),
-        10 => indexed::read(out, reader, s, index, store, destination),
-        11 => indexed::load(out, reader, s, index, store, destination),
-        _ => Ok(state::judged(s, false)),
+        2 | 3 => edits::step(reader, op, s, memory),
+        4 => lists::list(reader, s, memory),
+        5 => calls::call(out, reader, s, memory),
+        6 => calls::load(out, reader, s, memory),
+        7 => indexes::make(out, s, memory),
+        8 => indexes::after(out, reader, s, memory),
+        9 => indexes::put(reader, s, memory),
+        10 => indexed::read(out, reader, s, memory),
+        11 => indexed::load(out, reader, s, memory),
+        _ => Ok(None),
     }
 }
 
@@ -64,34 +50,17 @@ fn step<P: Print, R: Read>(
 pub fn run<P: Print, R: Read>(
     out: &P,
     reader: &mut R,
-    store: &mut Store,
-    candidate: &mut Candidate,
-    destination: &mut Destination,
-    signatures: &mut Signatures,
-    platforms: &mut Platforms,
-    index: &mut Index,
-) -> io::Result<State> {
+    memory: &mut Memory,
+) -> io::Result<Option<State>> {
     let mut s = state::begun();
     for _ in 0..1000000 {
-        let op = input::read_byte(reader)?;
-        if op == input::END {
-            return Ok(s);
-        }
-        s = step(
-            out,
-            reader,
-            op,
-            s,
-            store,
-            candidate,
-            destination,
-            signatures,
-            platforms,
-            index,
-        )?;
-        if !s.good {
-            return Ok(s);
-        }
+        let Some(op) = input::read_byte(reader)? else {
+            return Ok(Some(s));
+        };
+        let Some(next) = step(out, reader, op, s, memory)? else {
+            return Ok(None);
+        };
+        s = next;
     }
-    Ok(state::judged(s, input::read_byte(reader)? == input::END))
+    Ok(state::judged(s, input::read_byte(reader)?.is_none()))
 }

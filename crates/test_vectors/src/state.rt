@@ -4,8 +4,6 @@ ghost use Rattle.test_vectors.specs.RunState.{begun, judged, called};
 
 #[derive(Clone, Copy)]
 pub struct State {
-    // false after a step that breaks a bound
-    pub good: bool,
     // lengths of the buffers
     pub store: usize,
     pub candidate: usize,
@@ -21,7 +19,6 @@ pub fn begun() -> State
     ensures { result ≡ begun }
 {
     State {
-        good: true,
         store: 0,
         candidate: 0,
         destination: 0,
@@ -31,20 +28,19 @@ pub fn begun() -> State
     }
 }
 
-// The state after a step that is good or not, and changed nothing else.
-pub fn judged(s: State, good: bool) -> State
+// The state after a step that changed nothing of it; none after one that breaks a bound.
+pub fn judged(s: State, good: bool) -> Option<State>
     ensures { result ≡ judged s good }
 {
-    let mut r = s;
-    r.good = good;
-    r
+    good.then_some(s)
 }
 
 // The state with a call more.
 pub fn called(s: State) -> State
     ensures { result ≡ called s }
 {
-    let mut r = s;
-    r.calls = std::num::wrapping_add_u32(s.calls, 1);
-    r
+    State {
+        calls: s.calls.wrapping_add(1),
+        ..s
+    }
 }
