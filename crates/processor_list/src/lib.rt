@@ -1,4 +1,5 @@
-// The board's processor list, and which of its processors an update covers.
+// The board's processor list, and which of its processors an update covers. Loops go by index: iterators over slices, and closures that
+// capture one, don't fit the IA-32 archive.
 #![tactic(auto)]
 
 ghost use Rattle.std.specs.Prelude.{◌≡◌, ◌≤◌, ◌<◌, not, ◌&&◌, length};

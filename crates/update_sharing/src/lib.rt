@@ -1,4 +1,4 @@
-// Whether two updates share a processor, listed or not.
+// Whether two updates share a processor, listed or not. Loops go by number: closures that capture bytes don't fit the IA-32 archive.
 #![tactic(auto)]
 
 ghost use Rattle.std.specs.Prelude.{◌≡◌, ◌<◌};
