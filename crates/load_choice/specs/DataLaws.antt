@@ -1,6 +1,6 @@
 -- The data of a load choice.
 --   part_local   an update's data are settled by its T bytes
-use Rattle.std.specs.Prelude.{ℕ, ◌≤◌, ◌≡◌, List, length, take}
+use Rattle.std.specs.Prelude.{ℕ, ◌≤◌, ◌≡◌, List, length}
 use Rattle.std.proofs.Common.{arith}
 use Rattle.laws.specs.Same.{Same}
 use Rattle.update_header.specs.DataPart.{data_part}
