@@ -1,2 +1,3 @@
--- The answer words of the calls.
+-- The answer words of the calls: definitions, then laws.
 pub mod Words
+pub mod WordLaws

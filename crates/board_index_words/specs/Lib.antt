@@ -1,3 +1,4 @@
 -- The answer words of the index functions: definitions, then laws.
 pub mod IndexAnswerWords
 pub mod IndexAnswerLaws
+pub mod PlanWordLaws

@@ -1,2 +1,3 @@
--- The answer words of the load choice.
+-- The answer words of the load choice: definitions, then laws.
 pub mod LoadWords
+pub mod LoadWordLaws

@@ -1,16 +1,40 @@
 -- Laws of input that arrives in pieces: in how many it arrives makes no difference.
+--   fitting_most, fitting_room      a buffer takes no more than the piece has, and no more than there is room for
+--   add_turn, add_end, add_count    the bytes of a piece put one by one
 --   put_some, put_none              some bytes of a piece are put, and none
 --   gathered_none, gathered_more    before the first piece, and after one more
 --   add_still, add_within, add_less    of a piece that isn't empty a buffer with room takes some bytes
-use Rattle.std.specs.Prelude.{ℕ, ◌+◌, ◌-◌, ◌<◌, ◌≤◌, min, ◌≡◌, refl, List, [], ◌++◌, drop}
+use Rattle.std.specs.Prelude.{ℕ, ◌+◌, ◌-◌, ◌<◌, ◌≤◌, min, ◌≡◌, refl, List, [], ◌++◌, get_or, drop, set}
 use Rattle.std.proofs.Common.{sym, ◌∙◌, append-nil, append_assoc, ⊎_elim, arith, drop-drop, length-append, take_all}
 use Rattle.std.proofs.Math.Path.{ap}
 use Rattle.std.proofs.Math.ListN.{length, take}
 use Rattle.std.proofs.Math.Seq.{take-nil, take_at, take-append-add, length_paste_head}
 use Rattle.std.proofs.lemmas.List.{take-append-le}
 use Rattle.laws.specs.Orders.{le_or_lt}
-use Rattle.bytes_copy.specs.Paste.{put_at, put_long, put_start}
+use Rattle.bytes_copy.specs.Paste.{put_at, put_long, put_start, put_copy, put_done}
 use Rattle.report_input.specs.Input.{fitting, count_with, bytes_with, Gathered}
+
+-- r is the number that a call gave
+module _ (size have n r : ℕ) (e : r ≡ fitting size have n) where
+  pub fitting_most : r ≤ n
+  unfolding fitting
+  fitting_most = omega (arith, e)
+
+  pub fitting_room : r ≤ size - have
+  unfolding fitting
+  fitting_room = omega (arith, e)
+
+-- the loop that puts the first n bytes of a piece, byte by byte: r is the buffer at byte i
+module _ (d s r : List ℕ) (have i n : ℕ) (e : r ≡ put_at d have s i) where
+  pub add_turn : n ≤ length s → n ≤ length d - have → i < n → set r (have + i) (get_or s i 0) ≡ put_at d have s (i + 1)
+  add_turn p q l = put_copy d have s r i n e (omega arith) p l
+
+  -- n is the number that a call gave
+  pub add_end : n ≡ fitting (length d) have (length s) → i ≤ n → n ≤ i → r ≡ bytes_with d have s
+  add_end f p q = rw (← f) (put_done d have s r i n e p q)
+
+pub add_count : (have n m : ℕ) → n ≡ m → have + n ≡ have + m
+add_count have n m e = ap (λ k. have + k) e
 
 -- the first n bytes of a piece are put; n is the number that a call gave
 module _ (d s : List ℕ) (have n : ℕ) (e : n ≡ fitting (length d) have (length s)) where

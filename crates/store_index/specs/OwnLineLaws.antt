@@ -1,7 +1,7 @@
 -- The used lines of an index, and the gathering of differences in those of an update.
 --   used_no, used_unused, used_update         which lines are used
 --   used_not, used_more                       the loop that counts them
---   update_none, update_more                  the loop over the lines of an update
+--   update_none, update_more, update_done     the loop over the lines of an update
 use Rattle.std.specs.Prelude.{ℕ, ◌+◌, ◌<◌, ◌≤◌, ◌≡◌, Bool, cond, not, ◌↔◌, eqb}
 use Rattle.std.proofs.Math.Path.{refl, sym, ap}
 use Rattle.std.proofs.Common.{◌∙◌, true≢false, eq-or-lt_of_le, eqb-true, ne_eqb}
@@ -119,3 +119,6 @@ module _ (x : Index) (start revised size : ℕ) where
         gather_line d _ before (UpdateFrom x start revised size b) (UpdateFrom x start revised size (b + 1)) (line_of x b ≡ update_line start revised size b) g (update_line_lem b d k e)
         (λ p q c m n. ⊎_elim (λ (w : c ≡ b). rw w q) (λ (w : c < b). p c m w) (eq-or-lt_of_le {n = c} {m = b} (omega arith)))
         (λ q. (λ c m n. q c m (omega arith), q b l (omega arith)))
+
+    pub update_done : (b end d : ℕ) → Gathered d before (UpdateFrom x start revised size b) → b ≤ end → end ≤ b → Gathered d before (UpdateFrom x start revised size end)
+    update_done b end d g l m = let q : b ≡ end = omega arith in rw q at g
