@@ -1,6 +1,7 @@
 -- Which listed processors an update covers, kept in an array of eight beside the list.
 --   one_is, needed_by_is    from right marks to the definitions
-use Rattle.std.specs.Prelude.{ℕ, ◌≡◌, Bool, List, length}
+--   unmarked_no .. unmarked_marked    the test of a mark
+use Rattle.std.specs.Prelude.{ℕ, ◌≡◌, Bool, true, false, not, ◌&&◌, List, length}
 use Rattle.std.proofs.Common.{◌∙◌}
 use Rattle.laws.specs.Below.{any_below, any_cong}
 use Rattle.laws.specs.Arrays.{mark_at}
@@ -15,3 +16,14 @@ module _ (list : ProcessorList) (cand : List ℕ) (marks : List Bool) (right : C
   pub needed_by_is : (u : List ℕ) (r : Bool) → r ≡ any_below (length list.signatures) (needed_by_marks list marks u) → r ≡ is_needed list cand u
   unfolding is_needed needed_for needed_by_marks mark_at
   needed_by_is u r e = e ∙ any_cong (needed_by_marks list marks u) (needed_for list cand u) (length list.signatures) (λ k l. rw (right.each k l))
+
+-- r is what a call answered, m a mark
+module _ (r a m : Bool) (e : r ≡ a) where
+  pub unmarked_no : r ≡ false → false ≡ a && not m
+  unmarked_no h = rw (← e, h)
+
+  pub unmarked_yes : r ≡ true → m ≡ false → true ≡ a && not m
+  unmarked_yes h k = rw (← e, h, k)
+
+  pub unmarked_marked : r ≡ true → m ≡ true → false ≡ a && not m
+  unmarked_marked h k = rw (← e, h, k)

@@ -2,6 +2,7 @@
 --   shares_law     two updates share exactly if there is a processor that both cover
 --   common_and     two bytes of flags have a common platform exactly if their `and` isn't 0
 --   meets          the nested scan of pairs, as `search` takes it
+--   not_alone .. alone_apart     the tests of two readings
 --   one_pair, headers_apart_lem  two updates that have the header's pair alone, by the readings of their headers
 use Rattle.std.specs.Prelude.{ℕ, ◌+◌, ◌%◌, ◌<◌, ◌≡◌, Bool, not, List, ◌↔◌, eqb}
 use Rattle.std.proofs.Math.Path.{refl, sym, ap}
@@ -115,5 +116,20 @@ module _ (a b : List ℕ) (p q : Pairs) (e : p ≡ pairs_of a) (f : q ≡ pairs_
       let s = pair_shares p.signature p.platforms q.signature q.platforms in
       let y = and_parts (both_alone p q) (not s) (sym h ∙ t) in
       one_pair true false (sym y.0) refl (sym (not-true s y.1))
+
+-- the tests of two readings, a return at each
+module _ (p q : Pairs) (n : Bool) (k : n ≡ both_alone p q) where
+  pub not_alone : n ≡ false → false ≡ headers_apart p q
+  unfolding headers_apart
+  not_alone t = rw (← k, t)
+
+  module _ (t : n ≡ true) (r : Bool) (h : r ≡ pair_shares p.signature p.platforms q.signature q.platforms) where
+    pub alone_shares : r ≡ true → false ≡ headers_apart p q
+    unfolding headers_apart
+    alone_shares u = rw (← k, t, ← h, u)
+
+    pub alone_apart : r ≡ false → true ≡ headers_apart p q
+    unfolding headers_apart
+    alone_apart u = rw (← k, t, ← h, u)
 
 pub ruleset meets = (share_more, share_stop, none_alike, scan, count_is)
