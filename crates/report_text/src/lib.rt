@@ -19,7 +19,7 @@ pub struct ShortBuffer {
 // What became of a text: how many of the buffer's first bytes it is, or that the buffer is too short.
 pub type Report = Result<u32, ShortBuffer>;
 
-// A text that is being made.
+// A text that is being made. An array with a length: `no_text` and `added` fix the bytes behind it too, of which an `ArrayVec` says nothing.
 #[derive(Clone, Copy)]
 pub struct Text {
     pub bytes: [u8; ROOM],
@@ -64,7 +64,7 @@ impl Text {
         r
     }
 
-    // A number below 100, without padding.
+    // A number below 100, without padding. One or two digits need no buffer of their own, as the library's printing does.
     #[tactic(auto, using(crate::specs::DigitLaws::decimal_one, crate::specs::DigitLaws::decimal_two, crate::specs::TextLaws::added_twice))]
     pub fn decimal(self, n: u32) -> Text
         requires { TwoDigits n × (self.len + 2 ≤ text_room) }
@@ -94,6 +94,7 @@ impl Text {
     }
 }
 
+// By hand: `char::from_digit` gives lower-case letters.
 #[tactic(auto, using(laws::specs::Tests::cases), unfolding(crate::specs::Digits::hex_digit))]
 fn hex_digit(d: u32) -> u8
     requires { d < 16 }

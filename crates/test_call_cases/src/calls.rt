@@ -13,32 +13,27 @@ fn call<P: Print>(
     task: u32,
     block: u32,
 ) -> io::Result<()> {
-    let store: &mut [u8] = &mut [0u8; 65536];
+    let store: &mut [u8] = &mut [0u8; 8192];
     stores::four_blocks(store);
     let candidate: &mut [u8] = &mut [0u8; 65536];
     make::p(candidate, 8, 0xF8E7E008);
     let mut destination = [0u8; 2048];
     let mut answer = [0xA5A5A5A5u32; 16];
-    let signatures = [0x650u32];
-    let platforms = [1u8];
-    if 8192 <= store.len() {
-        let ax = board::update_store_call(
-            function,
-            sub,
-            task,
-            block,
-            false,
-            &mut store[0..8192],
-            &signatures,
-            &platforms,
-            candidate,
-            8,
-            &mut destination,
-            &mut answer,
-        );
-        lines::answer(out, label, ax, &answer)?;
-    }
-    Ok(())
+    let ax = board::update_store_call(
+        function,
+        sub,
+        task,
+        block,
+        false,
+        store,
+        &[0x650],
+        &[1],
+        candidate,
+        8,
+        &mut destination,
+        &mut answer,
+    );
+    lines::answer(out, label, ax, &answer)
 }
 
 pub fn run<P: Print>(out: &P) -> io::Result<()> {

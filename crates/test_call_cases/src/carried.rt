@@ -116,76 +116,60 @@ fn edges<P: Print>(out: &P) -> io::Result<()> {
     )
 }
 
-// Writes a candidate into the first `n` bytes, carries the index over the write, and holds it to the one made from the new store.
+// Writes a candidate, carries the index over the write, and holds it to the one made from the new store.
 // Listed are (650h, 1) and (651h, 0).
 fn carried<P: Print>(
     out: &P,
     label: &[u8],
-    space: &mut [u8],
-    n: usize,
+    store: &mut [u8],
     candidate: &[u8],
     revision: u32,
     size: u32,
 ) -> io::Result<()> {
-    if n <= space.len() {
-        let store: &mut [u8] = &mut space[0..n];
-        let mut old = [[0u32; MOST_BLOCKS]; COLUMNS];
-        let mut answer = [0u32; 16];
-        board::update_store_index(store, &mut old, &mut answer);
-        let signatures = [0x650u32, 0x651];
-        let platforms = [1u8, 0];
-        let written = writes::write(
-            out,
-            label,
-            store,
-            &signatures,
-            &platforms,
-            candidate,
-            revision,
-        )?;
-        let mut new_index = [[0xA5A5A5A5u32; MOST_BLOCKS]; COLUMNS];
-        board::update_store_index_after(
-            &old,
-            written[7],
-            written[5],
-            revision,
-            size,
-            &mut new_index,
-            &mut answer,
-        );
-        lines::index(out, &new_index)?;
-        let mut index = [[0u32; MOST_BLOCKS]; COLUMNS];
-        board::update_store_index(store, &mut index, &mut answer);
-        if numbers::same(&new_index, &index) {
-            test_output::text(out, b"  carried: same\n")?;
-        } else {
-            test_output::text(out, b"  carried: other\n")?;
-        }
+    let mut old = [[0u32; MOST_BLOCKS]; COLUMNS];
+    let mut answer = [0u32; 16];
+    board::update_store_index(store, &mut old, &mut answer);
+    let written = writes::write(
+        out,
+        label,
+        store,
+        &[0x650, 0x651],
+        &[1, 0],
+        candidate,
+        revision,
+    )?;
+    let mut new_index = [[0xA5A5A5A5u32; MOST_BLOCKS]; COLUMNS];
+    board::update_store_index_after(
+        &old,
+        written[7],
+        written[5],
+        revision,
+        size,
+        &mut new_index,
+        &mut answer,
+    );
+    lines::index(out, &new_index)?;
+    let mut index = [[0u32; MOST_BLOCKS]; COLUMNS];
+    board::update_store_index(store, &mut index, &mut answer);
+    if numbers::same(&new_index, &index) {
+        test_output::text(out, b"  carried: same\n")
+    } else {
+        test_output::text(out, b"  carried: other\n")
     }
-    Ok(())
 }
 
 // Four blocks with P in block 1: P with revision 8, then an update of two blocks that shares nothing.
 fn in_four_blocks<P: Print>(out: &P) -> io::Result<()> {
-    let store: &mut [u8] = &mut [0u8; 65536];
+    let store: &mut [u8] = &mut [0u8; 8192];
     stores::four_blocks(store);
     let candidate: &mut [u8] = &mut [0u8; 65536];
     make::p(candidate, 8, 0xF8E7E008);
-    carried(
-        out,
-        b"P with revision 8, carried: ",
-        store,
-        8192,
-        candidate,
-        8,
-        1,
-    )?;
+    carried(out, b"P with revision 8, carried: ", store, candidate, 8, 1)?;
     make::plain(candidate, 3, 0x651, 1, 3024, 3072);
     carried(
         out,
         b"two blocks behind it, carried: ",
         store,
-        8192,
         candidate,
         3,
         2,
@@ -194,20 +178,19 @@ fn in_four_blocks<P: Print>(out: &P) -> io::Result<()> {
 
 // Seven blocks: sharing, (650h, 1); needed; stale, of two; unused; sharing, (650h, 2), of two. Four blocks are wanted.
 fn over_many<P: Print>(out: &P) -> io::Result<()> {
-    let store: &mut [u8] = &mut [0u8; 65536];
+    let store: &mut [u8] = &mut [0u8; 14336];
     bytes::fill(store, 0, 14336, 255);
     put_update(store, 0, 3, 0x650, 2, 2000, 2048);
     put_update(store, 2048, 5, 0x651, 1, 2000, 2048);
     put_update(store, 4096, 7, 0x683, 0x81, 3024, 3072);
     put_update(store, 10240, 4, 0x650, 4, 4048, 4096);
-    indexes::made(out, b"index of seven blocks: ", bytes::first(store, 14336))?;
+    indexes::made(out, b"index of seven blocks: ", store)?;
     let candidate: &mut [u8] = &mut [0u8; 65536];
     make::plain(candidate, 9, 0x650, 6, 7120, 7168);
     carried(
         out,
         b"three updates emptied, carried: ",
         store,
-        14336,
         candidate,
         9,
         4,

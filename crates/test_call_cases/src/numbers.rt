@@ -9,7 +9,7 @@ pub const NUMBERS: usize = 128;
 
 pub type Index = [[u32; MOST_BLOCKS]; COLUMNS];
 
-// Are all the numbers of two indexes the same?
+// Are all the numbers of two indexes the same? By a loop: the proof of `x == y` lacks a law that a row of an array of arrays has its 32 numbers.
 #[tactic(auto, using(crate::specs::SameNumberLaws::samenesses))]
 pub fn same(x: &Index, y: &Index) -> bool
     ensures { result ≡ same_numbers x.now y.now }

@@ -17,46 +17,27 @@ fn call<P: Print>(
     destination: &mut [u8],
 ) -> io::Result<()> {
     let mut answer = [0xA5A5A5A5u32; 16];
-    if STORE <= store.len() {
-        let ax = board::update_store_call(
-            0xD042,
-            sub,
-            0,
-            0,
-            false,
-            &mut store[0..STORE],
-            &[],
-            &[],
-            &[],
-            0,
-            destination,
-            &mut answer,
-        );
-        lines::answer(out, label, ax, &answer)?;
-    }
-    Ok(())
+    let ax = board::update_store_call(
+        0xD042,
+        sub,
+        0,
+        0,
+        false,
+        store,
+        &[],
+        &[],
+        &[],
+        0,
+        destination,
+        &mut answer,
+    );
+    lines::answer(out, label, ax, &answer)
 }
 
 // Makes the store's blocks unused.
 fn empty(store: &mut [u8]) {
     bytes::fill(store, 0, 32768, 255);
     bytes::fill(store, 32768, 2048, 255);
-}
-
-// A candidate is written for the processor of its entry.
-fn written<P: Print>(out: &P, label: &[u8], store: &mut [u8], candidate: &[u8]) -> io::Result<()> {
-    if STORE <= store.len() {
-        writes::write(
-            out,
-            label,
-            &mut store[0..STORE],
-            &[0x651],
-            &[1],
-            candidate,
-            7,
-        )?;
-    }
-    Ok(())
 }
 
 // What was read of an update of `t` bytes in blocks of `taken`: the sums of its bytes and of the rest, and the rest's first dword.
@@ -72,7 +53,7 @@ fn read_back<P: Print>(out: &P, s: &[u8], t: usize, taken: usize) -> io::Result<
     test_output::text(out, b"\n")
 }
 
-// An update of `d` data bytes and `t` in all is written into unused blocks.
+// An update of `d` data bytes and `t` in all is written into unused blocks, for the processor of its entry.
 fn write_tabled<P: Print>(
     out: &P,
     label: &[u8],
@@ -83,12 +64,21 @@ fn write_tabled<P: Print>(
     let candidate: &mut [u8] = &mut [0u8; 65536];
     make::tabled(candidate, 0x650, 2, d, 1);
     empty(store);
-    written(out, label, store, bytes::first(candidate, t as usize))
+    writes::write(
+        out,
+        label,
+        store,
+        &[0x651],
+        &[1],
+        bytes::first(candidate, t as usize),
+        7,
+    )?;
+    Ok(())
 }
 
 // One that is stored in blocks of `taken` bytes.
 fn good<P: Print>(out: &P, label: &[u8], d: u32, t: u32, taken: usize) -> io::Result<()> {
-    let store: &mut [u8] = &mut [0u8; 65536];
+    let store: &mut [u8] = &mut [0u8; STORE];
     write_tabled(out, label, store, d, t)?;
     let destination: &mut [u8] = &mut [0u8; 65536];
     call(out, b"  read: ", 3, store, destination)?;
@@ -99,7 +89,7 @@ fn good<P: Print>(out: &P, label: &[u8], d: u32, t: u32, taken: usize) -> io::Re
 
 // One that is refused: block 0 is unused as before.
 fn refused<P: Print>(out: &P, label: &[u8], d: u32, t: u32) -> io::Result<()> {
-    let store: &mut [u8] = &mut [0u8; 65536];
+    let store: &mut [u8] = &mut [0u8; STORE];
     write_tabled(out, label, store, d, t)?;
     let destination: &mut [u8] = &mut [0u8; 65536];
     call(out, b"  read: ", 3, store, destination)?;

@@ -51,29 +51,25 @@ fn write_p<P: Print>(
     signature: u32,
     platform: u8,
 ) -> io::Result<()> {
-    let store: &mut [u8] = &mut [0u8; 65536];
+    let store: &mut [u8] = &mut [0u8; 8192];
     stores::four_blocks(store);
     let candidate: &mut [u8] = &mut [0u8; 65536];
     make::p(candidate, revision, checksum);
-    let signatures = [signature];
-    let platforms = [platform];
-    if 8192 <= store.len() {
-        write(
-            out,
-            label,
-            &mut store[0..8192],
-            &signatures,
-            &platforms,
-            candidate,
-            back,
-        )?;
-    }
-    load(out, b"  (650, 1): ", bytes::first(store, 8192), 0x650)
+    write(
+        out,
+        label,
+        store,
+        &[signature],
+        &[platform],
+        candidate,
+        back,
+    )?;
+    load(out, b"  (650, 1): ", store, 0x650)
 }
 
 // Stored E covers A, (651h, 1) and B, (652h, 1); the candidate covers A only. `n` of A, B are listed.
 fn write_over_e<P: Print>(out: &P, label: &[u8], n: usize) -> io::Result<()> {
-    let store: &mut [u8] = &mut [0u8; 65536];
+    let store: &mut [u8] = &mut [0u8; 4096];
     make::tabled(store, 0x650, 2, 1956, 2);
     bytes::fill(store, 2048, 2048, 255);
     let candidate: &mut [u8] = &mut [0u8; 65536];
@@ -81,20 +77,18 @@ fn write_over_e<P: Print>(out: &P, label: &[u8], n: usize) -> io::Result<()> {
     let signatures = [0x651u32, 0x652];
     let platforms = [1u8, 1];
     if n <= 2 {
-        if 4096 <= store.len() {
-            write(
-                out,
-                label,
-                &mut store[0..4096],
-                &signatures[0..n],
-                &platforms[0..n],
-                candidate,
-                8,
-            )?;
-        }
+        write(
+            out,
+            label,
+            store,
+            &signatures[..n],
+            &platforms[..n],
+            candidate,
+            8,
+        )?;
     }
-    load(out, b"  A: ", bytes::first(store, 4096), 0x651)?;
-    load(out, b"  B: ", bytes::first(store, 4096), 0x652)
+    load(out, b"  A: ", store, 0x651)?;
+    load(out, b"  B: ", store, 0x652)
 }
 
 pub fn run<P: Print>(out: &P) -> io::Result<()> {
