@@ -5,7 +5,7 @@ ghost use Rattle.store_index.specs.IndexColumns.{columns_of, index_in};
 ghost use Rattle.store_index.specs.UpdateLines.{Columns};
 ghost use Rattle.store_index.specs.AfterLines.{run_end, low_zeros, Cleared};
 
-use crate::{COLUMNS, Index, UNUSED, lines};
+use crate::{COLUMNS, Index, UNUSED_LINE, lines};
 use store_blocks::MOST_BLOCKS;
 
 // The end of the run of `size` blocks from `start` on. It doesn't wrap, and blocks above 31 are ignored.
@@ -45,7 +45,7 @@ fn clear_lines(columns: &mut [[u32; MOST_BLOCKS]; COLUMNS], emptied: u32)
         }
         let here = left % 2 == 1;
         if here {
-            lines::put_line(columns, b as usize, UNUSED, 0, 0, 0);
+            lines::put_line(columns, b as usize, UNUSED_LINE);
         }
     }
 }

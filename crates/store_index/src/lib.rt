@@ -41,6 +41,14 @@ pub struct Line {
     pub size: u32,
 }
 
+// The line of an unused block.
+pub const UNUSED_LINE: Line = Line {
+    kind: UNUSED,
+    start: 0,
+    revision: 0,
+    size: 0,
+};
+
 // Four arrays and not 32 lines, since C lends the columns.
 #[derive(Clone, Copy)]
 pub struct Index {

@@ -1,8 +1,8 @@
 // Lines written into lent columns.
 ghost use Rattle.std.specs.Prelude.{◌≡◌, ◌<◌, ◌≤◌, length};
-ghost use Rattle.store_index.specs.UpdateLines.{Columns, kind_from, line, LinePut, LinesPut};
+ghost use Rattle.store_index.specs.UpdateLines.{Columns, kind_from, LinePut, LinesPut};
 
-use crate::{COLUMNS, FIRST, KINDS, LATER, REVISIONS, SIZES, STARTS};
+use crate::{COLUMNS, FIRST, KINDS, LATER, Line, REVISIONS, SIZES, STARTS};
 use store_blocks::MOST_BLOCKS;
 
 // The kind of block `b` of an update.
@@ -14,21 +14,14 @@ pub fn kind_from(start: u32, b: u32) -> u32
 }
 
 // Writes line `b`. The others stay.
-pub fn put_line(
-    columns: &mut [[u32; MOST_BLOCKS]; COLUMNS],
-    b: usize,
-    kind: u32,
-    start: u32,
-    revision: u32,
-    size: u32,
-)
+pub fn put_line(columns: &mut [[u32; MOST_BLOCKS]; COLUMNS], b: usize, line: Line)
     requires { (b < 32) × Columns columns.old }
-    ensures { LinePut b (line kind start revision size) columns.old columns.new }
+    ensures { LinePut b line columns.old columns.new }
 {
-    columns[KINDS][b] = kind;
-    columns[STARTS][b] = start;
-    columns[REVISIONS][b] = revision;
-    columns[SIZES][b] = size;
+    columns[KINDS][b] = line.kind;
+    columns[STARTS][b] = line.start;
+    columns[REVISIONS][b] = line.revision;
+    columns[SIZES][b] = line.size;
 }
 
 // Writes the lines of an update of `size` blocks from `start` on, up to block `end`. The others stay.
@@ -43,8 +36,13 @@ pub fn put_lines(
     ensures { LinesPut start revision size end columns.old columns.new }
 {
     for b in start as usize..end {
-        let kind = kind_from(start, b as u32);
-        put_line(columns, b, kind, start, revision, size);
+        let line = Line {
+            kind: kind_from(start, b as u32),
+            start,
+            revision,
+            size,
+        };
+        put_line(columns, b, line);
     }
 }
 
