@@ -51,7 +51,7 @@ fn clear_lines(columns: &mut [[u32; MOST_BLOCKS]; COLUMNS], emptied: u32)
 }
 
 // Makes of a lent index the one after a write, from the emptied blocks, and the candidate's start, revision and size in blocks. Any numbers
-// will do.
+// will do. They come one by one, as from C.
 pub fn carry(
     columns: &mut [[u32; MOST_BLOCKS]; COLUMNS],
     emptied: u32,

@@ -46,24 +46,17 @@ pub fn put_lines(
     }
 }
 
-// How many places a lent column has. A contract knows the length of a lent array only where it is passed on as a slice, so this one and the
-// next do nothing but take one.
+// How many places a lent column has. The length of an array in a lent one is told only where it is passed on as a slice, so this one does
+// nothing but take one.
 fn places(column: &[u32])
     requires { length column.now ≡ 32 }
     ensures { length column.now ≡ 32 }
-{}
-
-// How many columns are lent.
-fn count(columns: &[[u32; MOST_BLOCKS]])
-    requires { length columns.now ≡ 4 }
-    ensures { length columns.now ≡ 4 }
 {}
 
 // Lent columns are four of 32 places.
 pub fn lengths(columns: &[[u32; MOST_BLOCKS]; COLUMNS])
     ensures { Columns columns.now }
 {
-    count(columns);
     places(&columns[KINDS]);
     places(&columns[STARTS]);
     places(&columns[REVISIONS]);
