@@ -50,11 +50,7 @@ pub fn update_store_call(
         store.old signatures.now
         platforms.now candidate.now read_back destination.old) }
 {
-    if function != call_dispatch::FUNCTION {
-        board_call_words::unknown_words(loading, answer);
-        return UNKNOWN;
-    }
-    if sub_function > call_dispatch::READ {
+    if call_dispatch::judged(function, sub_function).is_err() {
         board_call_words::unknown_words(loading, answer);
         return UNKNOWN;
     }
@@ -77,6 +73,7 @@ pub fn update_store_call(
 }
 
 // The load choice.
+#[tactic(auto, using(load_choice::specs::LoadBoundLaws::load_inside))]
 pub fn update_store_load(
     loading: bool,
     store: &[u8],
@@ -94,6 +91,7 @@ pub fn update_store_load(
 }
 
 // The index of a store, all unused for a bad one. An index is lent as four columns of 32 numbers, in C as 128 words.
+#[tactic(auto, using(board_index_words::specs::IndexAnswerLaws::index_ax))]
 pub fn update_store_index(
     store: &[u8],
     index: &mut [[u32; MOST_BLOCKS]; COLUMNS],
@@ -104,9 +102,8 @@ pub fn update_store_index(
     ensures answers { answer.new ≡ codes_words (index_codes (store_ok store.now)) }
 {
     let codes = call_indexed::index::put_index(store, index);
-    let case = board_index_words::index_case(codes.ah);
-    board_row::put(answer, codes.ah, codes.al, 0, case, 0, 0, 0, 0);
-    codes.ah as u32 * 256 + codes.al as u32
+    board_index_words::codes_words(codes, answer);
+    board_index_words::ax(codes)
 }
 
 // The index after an accepted write. It is never refused.
@@ -130,6 +127,7 @@ pub fn update_store_index_after(
 }
 
 // A read through an index.
+#[tactic(auto, using(board_index_words::specs::IndexAnswerLaws::plan_ax, call_indexed::proofs::IndexedReadLaws::indexed_copyable), unfolding(call_indexed::specs::IndexedRead::indexed_answer, call_indexed::specs::IndexedRead::indexed_bytes))]
 pub fn update_store_read_indexed(
     index: &[[u32; MOST_BLOCKS]; COLUMNS],
     block: u32,
@@ -147,10 +145,11 @@ pub fn update_store_read_indexed(
     let plan = call_indexed::read::indexed_plan(store, index, block, destination.len());
     read::copy_planned(store, block, destination, plan);
     board_index_words::plan_words(plan, answer);
-    board_index_words::plan_ax(plan)
+    board_index_words::ax(plan)
 }
 
 // The load choice through an index.
+#[tactic(auto, using(load_indexed::proofs::IndexedLoadLaws::indexed_inside))]
 pub fn update_store_load_indexed(
     loading: bool,
     index: &[[u32; MOST_BLOCKS]; COLUMNS],

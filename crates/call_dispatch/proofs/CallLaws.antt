@@ -2,10 +2,13 @@
 --   Called                            the reply, the store and the destination afterwards are those of the definitions
 --   other_function .. other_sub       so they are: an unknown function, the four sub-functions, an unknown sub-function
 --   above_sub                         a sub-function above 3
---   at_presence .. at_unknown         the number of a sub-function that was read from it
-use Rattle.std.specs.Prelude.{ℕ, ◌<◌, ◌≡◌, Ok, Err, List, length}
+--   at_presence .. at_read            the numbers that name a sub-function
+--   unknown_called                    a refused function or sub-function
+use Rattle.std.specs.Prelude.{ℕ, ◌<◌, ◌≡◌, Bool, Ok, is_err, List, length, eqb}
 use Rattle.std.proofs.Math.Path.{refl}
-use Rattle.std.proofs.Common.{arith}
+use Rattle.std.proofs.Common.{arith, eqb-true}
+use Rattle.std.proofs.Math.Bool.{true, false}
+use Rattle.std.proofs.lemmas.Bool.{eqb-false}
 use borrow.Author.Tests.{eq-eqb, ne_eqb}
 use Rattle.laws.specs.Unless.{unless}
 use Rattle.call_reads.specs.Presence.{presence_answer}
@@ -14,9 +17,8 @@ use Rattle.call_reads.specs.Read.{read_answer, read_bytes}
 use Rattle.call_answers.specs.declared.answer.Answer.{Answer}
 use Rattle.call_answers.specs.declared.answer.Reply.{Reply}
 use Rattle.write_call.specs.Write.{write_answer, write_bytes}
-use Rattle.call_answers.specs.declared.refusal.Refusal.{Refusal}
 use Rattle.call_dispatch.specs.declared.SubFunction.TheVariants.{Presence, Write, Control, Read}
-use Rattle.call_dispatch.specs.SubFunctions.{sub_function_of}
+use Rattle.call_dispatch.specs.SubFunctions.{judged}
 use Rattle.call_dispatch.specs.Call.{CallInputs, replied, unknown, call_reply, call_store, call_destination}
 
 module _ (i : CallInputs) where
@@ -55,19 +57,27 @@ module _ (i : CallInputs) where
     pub above_sub : (r : Reply) → 3 < i.sub → r ≡ unknown i.loading → Called r i.store i.destination
     above_sub r l e = other_sub r (λ h. omega (arith, h)) (λ h. omega (arith, h)) (λ h. omega (arith, h)) (λ h. omega (arith, h)) e
 
--- n is the number
-module _ (n : ℕ) where
-  pub at_presence : Ok Presence ≡ sub_function_of n → n ≡ 0
-  at_presence e = grind arith
+-- f and n are the numbers
+module _ (f n : ℕ) where
+  pub at_presence : Ok Presence ≡ judged f n → (f ≡ 0xD042) × (n ≡ 0)
+  at_presence e = (grind arith, grind arith)
 
-  pub at_write : Ok Write ≡ sub_function_of n → n ≡ 1
-  at_write e = grind arith
+  pub at_write : Ok Write ≡ judged f n → (f ≡ 0xD042) × (n ≡ 1)
+  at_write e = (grind arith, grind arith)
 
-  pub at_control : Ok Control ≡ sub_function_of n → n ≡ 2
-  at_control e = grind arith
+  pub at_control : Ok Control ≡ judged f n → (f ≡ 0xD042) × (n ≡ 2)
+  at_control e = (grind arith, grind arith)
 
-  pub at_read : Ok Read ≡ sub_function_of n → n ≡ 3
-  at_read e = grind arith
+  pub at_read : Ok Read ≡ judged f n → (f ≡ 0xD042) × (n ≡ 3)
+  at_read e = (grind arith, grind arith)
 
-  pub at_unknown : (r : Refusal) → Err r ≡ sub_function_of n → 3 < n
-  at_unknown r e = grind arith
+  above : f ≡ 0xD042 → is_err (judged f n) ≡ true → 3 < n
+  above e h = grind arith
+
+-- a refused function or sub-function
+pub unknown_called : (i : CallInputs) (r : Reply) → is_err (judged i.function i.sub) ≡ true → r ≡ unknown i.loading → Called i r i.store i.destination
+unknown_called i r h e = go (eqb i.function 0xD042) refl
+  where
+    go : (t : Bool) → eqb i.function 0xD042 ≡ t → Called i r i.store i.destination
+    go true q = let f = eqb-true i.function 0xD042 q in above_sub i f r (above i.function i.sub f h) e
+    go false q = other_function i r (eqb-false i.function 0xD042 q) e

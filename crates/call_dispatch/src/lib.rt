@@ -4,14 +4,14 @@
 ghost use Rattle.std.specs.Prelude.{◌≡◌};
 ghost use Rattle.call_dispatch.specs.Call.{inputs_of, unknown, call_reply, call_store, call_destination};
 ghost use Rattle.call_dispatch.specs.Demand1.{Demand1};
-ghost use Rattle.call_dispatch.specs.SubFunctions.{sub_function_of};
+ghost use Rattle.call_dispatch.specs.SubFunctions.{sub_function_of, judged};
 
 use call_answers::answer::{Answer, Reply};
 use call_answers::refusal::Refusal;
 use call_reads::{presence, read};
 
 // The function of the update calls.
-pub const FUNCTION: u32 = 0xD042;
+const FUNCTION: u32 = 0xD042;
 
 #[derive(Clone, Copy)]
 pub enum SubFunction {
@@ -35,6 +35,16 @@ impl TryFrom<u32> for SubFunction {
             _ => Err(Refusal::NotImplemented),
         }
     }
+}
+
+// Function and sub-function are judged first.
+pub fn judged(function: u32, sub: u32) -> Result<SubFunction, Refusal>
+    ensures { result ≡ judged function sub }
+{
+    if function != FUNCTION {
+        return Err(Refusal::NotImplemented);
+    }
+    SubFunction::try_from(sub)
 }
 
 // An unknown function or sub-function does nothing else.
@@ -74,10 +84,7 @@ pub fn call(
         platforms.now candidate.now back destination.old) result store.new
         destination.new }
 {
-    if function != FUNCTION {
-        return not_implemented(loading);
-    }
-    match SubFunction::try_from(sub) {
+    match judged(function, sub) {
         Ok(SubFunction::Presence) => Reply {
             answer: presence::presence(store),
             loading,
