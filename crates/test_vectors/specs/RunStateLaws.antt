@@ -1,18 +1,27 @@
 -- Laws of the state.
---   judged_within                    there is room for the lengths where there was
+--   begun_within                     there is room for the lengths before the first step
+--   called_within, judged_within     and where there was
 --   length_within, lengths_within    and after a step that sets them
 --   kept_within                      these, as `search` takes them
 use Rattle.std.specs.Prelude.{◌≡◌, ℕ, Bool, true, false, cond, ◌&&◌, ◌==◌, nat_le, Option, Some, None}
 use Rattle.std.proofs.Math.Path.{refl}
+use Rattle.std.proofs.Common.{arith}
 use borrow.Author.Tests.{leb-true}
 use Rattle.laws.specs.Bools.{and_parts}
 use Rattle.test_vectors.specs.declared.state.State.{State}
-use Rattle.test_vectors.specs.RunState.{store_room, candidate_room, destination_room, list_room, judged, with_length, with_lengths, Within, Kept}
+use Rattle.test_vectors.specs.RunState.{store_room, candidate_room, destination_room, list_room, begun, judged, called, with_length, with_lengths, Within, Kept}
 
 -- a test passed, or what comes then
 passed : (a : Bool) (x : State) (y : Option State) → (a ≡ true → Within x) → Kept y → Kept (cond a (Some x) y)
 passed true x y f h = f refl
 passed false x y f h = h
+
+pub begun_within : (r : State) → r ≡ begun → Within r
+begun_within r e = rw e (record { store = omega arith; candidate = omega arith; destination = omega arith; signatures = omega arith; platforms = omega arith })
+
+pub called_within : (s r : State) → Within s → r ≡ called s → Within r
+called_within s r w e =
+    rw e (record { store = w.store; candidate = w.candidate; destination = w.destination; signatures = w.signatures; platforms = w.platforms })
 
 module _ (s : State) (r : Option State) (w : Within s) where
   pub judged_within : (good : Bool) → r ≡ judged s good → Kept r
@@ -64,4 +73,4 @@ module _ (s : State) (r : Option State) (w : Within s) where
       })
       tt)
 
-pub ruleset kept_within = (judged_within, length_within, lengths_within)
+pub ruleset kept_within = (begun_within, called_within, judged_within, length_within, lengths_within)
