@@ -8,10 +8,11 @@ use borrow.Author.Tests.{le-leb, lt-leb}
 use Rattle.laws.specs.Unless.{unless, unless_pass, unless_stop}
 use Rattle.update_sizes.specs.Sizes.{blocks_of}
 use Rattle.update_header.specs.Inside.{inside}
-use Rattle.update_verdict.specs.Verdict.{Verdict, verdict}
+use Rattle.update_verdict.specs.Verdict.{Verdict, BadHeader, BadSum, verdict}
 use Rattle.update_verdict.specs.VerdictLaws.{judged, verdict_blocks}
 use Rattle.update_verdict.specs.declared.Measures.{Measures}
 use Rattle.update_verdict.specs.declared.BadUpdate.{BadUpdate}
+use Rattle.update_verdict.specs.declared.BadUpdate.TheVariants.{Header, Sum}
 use Rattle.store_blocks.specs.Blocks.{filled}
 use Rattle.store_blocks.specs.Slot.{fits, update_slot}
 use Rattle.store_blocks.specs.declared.slot.Slot.{Slot}
@@ -38,6 +39,12 @@ module _ (s : List ℕ) (r v : Verdict) (e : r ≡ v) where
   pub slot_bad : (x : BadUpdate) → r ≡ Err x → Bad ≡ update_slot s v
   unfolding update_slot
   slot_bad x h = rw (← e, h)
+
+  pub slot_header : r ≡ BadHeader → Bad ≡ update_slot s v
+  slot_header h = slot_bad Header h
+
+  pub slot_sum : r ≡ BadSum → Bad ≡ update_slot s v
+  slot_sum h = slot_bad Sum h
 
 -- a good update is whole dwords; v is what a call answered
 pub good_dwords : (s : List ℕ) (v : Verdict) (m : Measures) → v ≡ verdict s → v ≡ Ok m → m.total % 4 ≡ 0

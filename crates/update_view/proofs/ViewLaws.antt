@@ -13,7 +13,7 @@ use Rattle.bytes_dwords.specs.Dword.{dword}
 use Rattle.update_header.specs.Fields.{data_size}
 use Rattle.update_header.specs.DataPart.{data_part}
 use Rattle.update_header.specs.DataPartLaws.{part_same}
-use Rattle.update_verdict.specs.Verdict.{Verdict, measures, Good, verdict}
+use Rattle.update_verdict.specs.Verdict.{Verdict, measures, Good, BadHeader, BadSum, verdict}
 use Rattle.update_verdict.specs.VerdictLaws.{judged, good_size}
 use Rattle.update_verdict.specs.VerdictLocal.{field_local, data_local, verdict_local}
 use Rattle.update_verdict.specs.declared.Measures.{Measures}
@@ -32,13 +32,17 @@ module _ (s : List ℕ) (c : Verdict) (e : c ≡ verdict s) where
     unfolding viewed viewed_by
     view_good = rw (← e, h)
 
-  pub view_bad : (x : BadUpdate) → c ≡ Err x → take 0 s ≡ viewed s
+  pub view_header : c ≡ BadHeader → take 0 s ≡ viewed s
   unfolding viewed viewed_by
-  view_bad x h = rw (← e, h) (nothing x)
-    where
-      nothing : (x : BadUpdate) → take 0 s ≡ viewed_by s (Err x)
-      nothing Header = refl
-      nothing Sum = refl
+  view_header h = rw (← e, h)
+
+  pub view_sum : c ≡ BadSum → take 0 s ≡ viewed s
+  unfolding viewed viewed_by
+  view_sum h = rw (← e, h)
+
+  pub view_bad : (x : BadUpdate) → c ≡ Err x → take 0 s ≡ viewed s
+  view_bad Header h = view_header h
+  view_bad Sum h = view_sum h
 
 pub ruleset viewing = (view_count, view_good, view_bad)
 
