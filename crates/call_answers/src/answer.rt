@@ -8,6 +8,7 @@ use crate::refusal::Refusal;
 // The bytes INTE and LPEP, the loader version, the number of blocks.
 #[derive(Clone, Copy)]
 pub struct Presence {
+    // eight fields: C gets a word for each, and a definition knows no array's length
     pub byte0: u8,
     pub byte1: u8,
     pub byte2: u8,
