@@ -1,7 +1,7 @@
 -- Check 9 and the bytes, by cases of the plan, as `search` takes them.
 --   answers         the answer of check 9
 --   left            the bytes of the store afterwards
---   meant, meant_refused           the whole contract of the write, from a plan; from a refusal of checks 1 to 4
+--   meant, meant_refused           the whole contract of the write, from a plan; from a refusal of checks 1 to 8
 use Rattle.std.specs.Prelude.{ℕ, ◌≡◌, List, Ok, Err}
 use Rattle.std.proofs.Math.Path.{refl, sym, ap}
 use Rattle.std.proofs.Common.{◌∙◌}

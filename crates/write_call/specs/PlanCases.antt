@@ -1,12 +1,14 @@
 -- The order of checks 1 to 6, a return at each, as `search` takes them.
 --   good_absent, good_outdated, good_marked   checks 5 and 6
+--   plan_header, plan_sum      the refusals of a bad update
 --   plans                      checks 1 to 6, of what the calls answered
 use Rattle.std.specs.Prelude.{ℕ, ◌≡◌, Bool, true, false, List, Option, Some, None, Ok, Err, length}
 use Rattle.std.proofs.Common.{◌∙◌}
 use Rattle.laws.specs.Below.{any_below}
 use Rattle.laws.specs.Unless.{unless}
-use Rattle.update_verdict.specs.Verdict.{Verdict, verdict}
+use Rattle.update_verdict.specs.Verdict.{Verdict, BadHeader, BadSum, verdict}
 use Rattle.update_verdict.specs.declared.BadUpdate.{BadUpdate}
+use Rattle.update_verdict.specs.declared.BadUpdate.TheVariants.{Header, Sum}
 use Rattle.update_verdict.specs.declared.Measures.{Measures}
 use Rattle.store_blocks.specs.Blocks.{block_count}
 use Rattle.store_directory.specs.Scan.{stored}
@@ -19,7 +21,7 @@ use Rattle.write_marks.specs.StoredMarks.{stored_of}
 use Rattle.laws.specs.Arrays.{mark_at}
 use Rattle.write_marks.specs.declared.Marked.{Marked}
 use Rattle.processor_list.specs.Processors.{ProcessorList, list_ok}
-use Rattle.call_answers.specs.declared.refusal.Refusal.TheVariants.{BadStore, BadProcessors, ProcessorNotPresent, InvalidRevision}
+use Rattle.call_answers.specs.declared.refusal.Refusal.TheVariants.{BadStore, BadProcessors, ProcessorNotPresent, InvalidHeader, InvalidHeaderSum, InvalidRevision}
 use Rattle.processor_list.specs.Covered.{Covered}
 use Rattle.processor_list.proofs.CoveredLaws.{one_is}
 use Rattle.write_plan.specs.CandidateMarks.{stored_updates, outdated}
@@ -65,6 +67,12 @@ module _ (old : List ℕ) (list : ProcessorList) (cand : List ℕ) (s : Option D
       pub plan_judged : (x : BadUpdate) → v ≡ Err x → Err (refusal_of x) ≡ write_plan old list cand
       unfolding write_plan unless judged_plan
       plan_judged x h = rw (stored_good old s e d read, ← f, good, ← g, h)
+
+      pub plan_header : v ≡ BadHeader → Err InvalidHeader ≡ write_plan old list cand
+      plan_header = plan_judged Header
+
+      pub plan_sum : v ≡ BadSum → Err InvalidHeaderSum ≡ write_plan old list cand
+      plan_sum = plan_judged Sum
 
       module _ (m : Measures) (h : v ≡ Ok m) where
         pub plan_good : good_plan old list cand m.blocks ≡ write_plan old list cand
