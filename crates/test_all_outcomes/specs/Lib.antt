@@ -16,3 +16,4 @@ pub mod WantedStoreLaws
 pub mod JudgedAnswers
 pub mod JudgedAnswerLaws
 pub mod Tallies
+pub mod TallyLaws

@@ -1,14 +1,26 @@
 -- Laws of the blocks of a set, in the form in which a proof of the code takes them: r is what a call answered.
+--   takes_not, takes_owned   a return at each test of `takes`
 --   bits_none .. bits_done   the loop over the blocks
 --   bits_room                its sum stays small
 use Rattle.std.specs.Prelude.{◌≡◌, ℕ, ◌+◌, ◌*◌, ◌%◌, ◌^◌, ◌<◌, ◌≤◌, Bool, true, false}
 use Rattle.std.proofs.Math.Path.{refl}
 use Rattle.std.proofs.Common.{lt_of_lt_of_le, add-one, arith, pow_mono}
 use Rattle.std.proofs.Math.Pow.{shl_exact}
+use Rattle.laws.specs.Arrays.{mark_at}
 use Rattle.laws.specs.Bits.{bits_below, bits_small}
 use Rattle.test_all_outcomes.specs.declared.layout.Layout.{Layout}
 use Rattle.test_all_outcomes.specs.declared.outcomes.Set.{Set}
-use Rattle.test_all_outcomes.specs.SetBlocks.{most_blocks, taken, set_blocks}
+use Rattle.test_all_outcomes.specs.SmallLayouts.{owns}
+use Rattle.test_all_outcomes.specs.SetBlocks.{most_blocks, takes, taken, set_blocks}
+
+module _ (l : Layout) (set : Set) (c i : ℕ) where
+  pub takes_not : mark_at set.has i ≡ false → false ≡ takes l set c i
+  unfolding takes
+  takes_not h = rw h
+
+  pub takes_owned : (r : Bool) → mark_at set.has i ≡ true → r ≡ owns l i c → r ≡ takes l set c i
+  unfolding takes
+  takes_owned r h e = rw h e
 
 -- bits are those of the blocks below c
 module _ (p : ℕ → Bool) where
