@@ -155,7 +155,7 @@ trouble=$(awk '
         else parts[address] = 1
     }
     function slice_after(word) { gsub(word " [{] ptr +i64 [}]", word " slice") }
-    { line = $0; gsub(/[,()]/, " "); gsub(/[{]( +i(8|16|32))+ +[}]/, "numbers") }
+    { line = $0; gsub(/"[^"]*"/, "name"); gsub(/[,()]/, " "); gsub(/[{]( +i(8|16|32))+ +[}]/, "numbers") }
     { slice_after("ret"); slice_after("extractvalue"); slice_after("insertvalue") }
     { gsub(/[{] ptr +i64 [}] @/, "slice @") }
     /ptrtoint|inttoptr|addrspacecast/ { refuse("a pointer becomes a number") }

@@ -10,6 +10,7 @@ use Rattle.store_directory.proofs.ValidLaws.{blocks_few}
 use Rattle.write_call.specs.CandidateSizeLaws.{entries_few, good_data, good_count, good_total}
 use Rattle.write_call.specs.PlanCases.{plans}
 use Rattle.write_call.proofs.Storing.{can_store}
+use Rattle.write_call.proofs.WriteCases.{meant_err}
 
 -- r is what a call answered
 module _ (signatures platforms : List ℕ) (r : Bool) (e : r ≡ list_ok (list_of signatures platforms)) (h : r ≡ true) where
@@ -19,4 +20,4 @@ module _ (signatures platforms : List ℕ) (r : Bool) (e : r ≡ list_ok (list_o
   pub lent_same : length signatures ≡ length platforms
   lent_same = list_same (list_of signatures platforms) (sym e ∙ h)
 
-pub ruleset checking = (reading, lent_few, lent_same, blocks_few, entries_few, good_data, good_count, good_total, plans, can_store)
+pub ruleset checking = (reading, lent_few, lent_same, blocks_few, entries_few, good_data, good_count, good_total, plans, can_store, meant_err)

@@ -37,13 +37,12 @@ use Rattle.write_plan.specs.CandidateMarks.{shares_entry}
 use Rattle.write_plan.specs.RightMarks.{Marks}
 use Rattle.write_call.specs.Write.{touched_at, emptied_at, write_plan}
 use Rattle.write_call.specs.Planned.{plan_run}
-use Rattle.write_call.specs.Storing.{Storing, CanStore}
+use Rattle.write_call.specs.Storing.{Storing}
 
-pub can_store : (old : List ℕ) (list : ProcessorList) (cand : List ℕ) (m : Marked) (r : Run) (t : ℕ) → Ok r ≡ write_plan old list cand → Marks old list cand m → t ≡ total_size cand
-    → CanStore old list cand (record { stored = m; run = r; total = t })
-can_store old list cand m r t e y q =
+pub can_store : (old : List ℕ) (list : ProcessorList) (cand : List ℕ) (m : Marked) (r : Run) → Ok r ≡ write_plan old list cand → Marks old list cand m → Storing old cand m r.start
+can_store old list cand m r e y =
     let x = plan_run old list cand r.start r.emptied (sym e) in
-    record { plan = e; storing = record { ok = x.store; shared = y.shared; sizes = y.sizes; whole = x.whole; small = x.small; ends = x.ends }; total = q }
+    record { ok = x.store; shared = y.shared; sizes = y.sizes; whole = x.whole; small = x.small; ends = x.ends }
 
 -- a set of first blocks matters only at the updates that own a block outside the run
 outcome_same : (old : List ℕ) (t : ℕ) (cand : List ℕ) (start : ℕ) (e f : ℕ → Bool)

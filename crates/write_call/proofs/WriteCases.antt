@@ -2,6 +2,7 @@
 --   answers         the answer of check 9
 --   left            the bytes of the store afterwards
 --   meant, meant_refused           the whole contract of the write, from a plan; from a refusal of checks 1 to 8
+--   meant_err, meant_other, meant_done    of what the write itself answers: a refusal of checks 1 to 8, of check 9, or none
 use Rattle.std.specs.Prelude.{ℕ, ◌≡◌, List, Ok, Err}
 use Rattle.std.proofs.Math.Path.{refl, sym, ap}
 use Rattle.std.proofs.Common.{◌∙◌}
@@ -56,3 +57,18 @@ module _ (old : List ℕ) (list : ProcessorList) (cand : List ℕ) (back : ℕ) 
   pub meant_refused : (x : Refusal) → Err x ≡ write_plan old list cand → r ≡ refused x → Meant old list cand back r old
   unfolding answered bytes_after
   meant_refused x q e = meant old (Err x) q e refl
+
+module _ (old : List ℕ) (list : ProcessorList) (cand : List ℕ) (back : ℕ) where
+  -- check x of 1 to 8 refuses
+  pub meant_err : (x : Refusal) → Err x ≡ write_plan old list cand → Meant old list cand back (refused x) old
+  meant_err x q = meant_refused old list cand back (refused x) x q refl
+
+  module _ (r : Run) (q : Ok r ≡ write_plan old list cand) (v : ℕ) (f : v ≡ revision cand) where
+    -- check 9 refuses
+    pub meant_other : (back ≡ v → ⊥) → Meant old list cand back (refused SecurityFailure) old
+    meant_other n = meant old list cand back (refused SecurityFailure) old (Ok r) q (back_wrong old cand back r v f (refused SecurityFailure) n refl) (bytes_kept old cand back r v f n)
+
+    pub meant_done : (new : List ℕ) (blocks : ℕ) → back ≡ v → blocks ≡ emptied_blocks old (emptied_at old cand r.start)
+        → new ≡ outcome_bytes old (total_size cand) cand r.start (emptied_at old cand r.start) → Meant old list cand back (written r.start r.emptied blocks) new
+    meant_done new blocks h g e =
+        meant old list cand back (written r.start r.emptied blocks) new (Ok r) q (back_right old cand back r v f blocks h g) (bytes_written old cand back r v f new h e)

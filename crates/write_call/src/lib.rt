@@ -1,15 +1,16 @@
 // The write call, sub-function 1: its checks in their order, and the bytes.
 #![tactic(auto)]
 
-ghost use Rattle.std.specs.Prelude.{◌≡◌, Ok};
+ghost use Rattle.std.specs.Prelude.{◌≡◌};
 ghost use Rattle.update_header.specs.Fields.{total_size};
 ghost use Rattle.processor_list.specs.Processors.{list_of};
 ghost use Rattle.write_outcome.specs.OutcomeBytes.{outcome_bytes};
 ghost use Rattle.write_outcome.specs.EmptiedBlocks.{emptied_blocks};
 ghost use Rattle.write_plan.specs.VerdictCode.{refusal_of};
-ghost use Rattle.write_call.specs.Write.{emptied_at, answered, write_answer, bytes_after, write_bytes};
+ghost use Rattle.write_call.specs.Write.{emptied_at, write_answer, write_bytes};
 ghost use Rattle.write_call.specs.Demand.{Passes, Demand3};
-ghost use Rattle.write_call.specs.Storing.{Storing, Checked};
+ghost use Rattle.write_call.specs.Storing.{Storing};
+ghost use Rattle.write_call.specs.WriteCases.{answer_of, Meant};
 
 use call_answers::answer::{Answer, Written};
 use call_answers::code;
@@ -18,15 +19,7 @@ use update_header::fields;
 use update_verdict::BadUpdate;
 use write_marks::Marked;
 use write_outcome::bytes;
-use write_plan::{Run, marks};
-
-// What checks 1 to 8 let pass: the stored updates with their marks against the candidate, the run, and T.
-#[derive(Clone, Copy)]
-struct Passed {
-    stored: Marked,
-    run: Run,
-    total: u32,
-}
+use write_plan::marks;
 
 // Checks 2 and 3 of a bad update have one refusal, check 4 another.
 fn refusal_of(x: BadUpdate) -> Refusal
@@ -36,38 +29,6 @@ fn refusal_of(x: BadUpdate) -> Refusal
         BadUpdate::Header => Refusal::InvalidHeader,
         BadUpdate::Sum => Refusal::InvalidHeaderSum,
     }
-}
-
-// Checks 1 to 8, in their order. The IA-32 archive keeps no slice in a struct, so the two lists are lent side by side.
-#[tactic(auto, using(crate::proofs::Checking::checking))]
-fn check(
-    store: &[u8],
-    signatures: &[u32],
-    platforms: &[u8],
-    candidate: &[u8],
-) -> Result<Passed, Refusal>
-    ensures { Checked store.now (list_of signatures.now platforms.now) candidate.now result }
-{
-    let d = store_directory::read_store(store).ok_or(Refusal::BadStore)?;
-    if !processor_list::list_ok(signatures, platforms) {
-        return Err(Refusal::BadProcessors);
-    }
-    let good = update_verdict::check_update(candidate).map_err(refusal_of)?;
-    let pairs = update_coverage::pairs_with(candidate, good.data, good.entries + 1);
-    let covered = processor_list::covered(signatures, platforms, candidate, pairs);
-    if !processor_list::covers_one(covered, signatures.len()) {
-        return Err(Refusal::ProcessorNotPresent);
-    }
-    if marks::outdated(store, d, candidate, pairs) {
-        return Err(Refusal::InvalidRevision);
-    }
-    let stored = marks::mark(store, d, signatures, platforms, covered, candidate, pairs);
-    let run = write_plan::plan_marked(store, &stored, good.blocks)?;
-    Ok(Passed {
-        stored,
-        run,
-        total: good.total,
-    })
 }
 
 // Empties all sharing updates, wherever they lie, and all that the run touches, and puts the candidate of `t` bytes at the start. Answers
@@ -88,23 +49,48 @@ fn store_candidate(store: &mut [u8], m: &Marked, start: u32, candidate: &[u8], t
     blocks
 }
 
-// Check 9, and the bytes.
-#[tactic(auto, using(crate::proofs::WriteCases::answers, crate::proofs::WriteCases::left))]
-fn finish(store: &mut [u8], c: &Passed, candidate: &[u8], back: u32) -> Answer
-    requires { Storing store.old candidate.now c.now.stored c.now.run.start × (c.now.total ≡ total_size candidate.now) }
-    ensures answers { result ≡ answered store.old candidate.now back (Ok c.now.run) }
-    ensures stores { store.new ≡ bytes_after store.old candidate.now back (Ok c.now.run) }
+// Checks 1 to 9 in their order, then the bytes. A refusal changes no byte. The IA-32 archive keeps no slice in a struct, so the two lists are
+// lent side by side.
+#[tactic(auto, using(crate::proofs::Checking::checking))]
+fn accept(
+    store: &mut [u8],
+    signatures: &[u32],
+    platforms: &[u8],
+    candidate: &[u8],
+    back: u32,
+) -> Result<Written, Refusal>
+    ensures { Meant store.old (list_of signatures.now platforms.now) candidate.now back (answer_of result) store.new }
 {
-    if back != fields::revision(candidate) {
-        return Answer::from(Refusal::SecurityFailure);
+    let Some(d) = store_directory::read_store(store) else {
+        return Err(Refusal::BadStore);
+    };
+    if !processor_list::list_ok(signatures, platforms) {
+        return Err(Refusal::BadProcessors);
     }
-    let emptied_blocks = store_candidate(store, &c.stored, c.run.start, candidate, c.total);
-    Answer::Written(Written {
+    let good = match update_verdict::check_update(candidate) {
+        Ok(measures) => measures,
+        Err(x) => return Err(refusal_of(x)),
+    };
+    let pairs = update_coverage::pairs_with(candidate, good.data, good.entries + 1);
+    let covered = processor_list::covered(signatures, platforms, candidate, pairs);
+    if !processor_list::covers_one(covered, signatures.len()) {
+        return Err(Refusal::ProcessorNotPresent);
+    }
+    if marks::outdated(store, d, candidate, pairs) {
+        return Err(Refusal::InvalidRevision);
+    }
+    let marked = marks::mark(store, d, signatures, platforms, covered, candidate, pairs);
+    let run = write_plan::plan_marked(store, &marked, good.blocks)?;
+    if back != fields::revision(candidate) {
+        return Err(Refusal::SecurityFailure);
+    }
+    let emptied_blocks = store_candidate(store, &marked, run.start, candidate, good.total);
+    Ok(Written {
         ah: code::SUCCESS,
         al: code::NONE,
         carry: false,
-        start: c.run.start,
-        emptied: c.run.emptied,
+        start: run.start,
+        emptied: run.emptied,
         emptied_blocks,
     })
 }
@@ -126,8 +112,8 @@ pub fn write(
         let cand = candidate.now in
         Passes old list cand → Demand3 old list cand back result store.new }
 {
-    match check(store, signatures, platforms, candidate) {
-        Ok(passed) => finish(store, &passed, candidate, back),
+    match accept(store, signatures, platforms, candidate, back) {
+        Ok(written) => Answer::Written(written),
         Err(r) => Answer::from(r),
     }
 }
