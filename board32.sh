@@ -42,8 +42,8 @@ case ${PIC:-0} in
 esac
 
 rt=$(command -v rt) || fail "rt, of the Rattle toolchain, is not in PATH"
-for tool in awk nm objdump; do
-    command -v "$tool" >/dev/null || fail "$tool is not in PATH (nm and objdump are in Debian's binutils)"
+for tool in awk nm objcopy objdump; do
+    command -v "$tool" >/dev/null || fail "$tool is not in PATH (nm, objcopy and objdump are in Debian's binutils)"
 done
 kit=$(dirname "$(dirname "$(readlink -f "$rt")")")
 for tool in clang llvm-ar; do
@@ -187,6 +187,9 @@ END
 
 compile "$work/module.ll" "$work/board.o" --target=i386-unknown-linux-gnu "-march=$march" "$pic" \
     -Wno-override-module -fstack-usage
+
+# The module moves memory by memmove. Where two places are known to be apart clang calls memcpy for it; memmove does the same.
+objcopy --redefine-sym memcpy=memmove "$work/board.o"
 
 objdump -d --no-show-raw-insn "$work/board.o" >"$work/code"
 grep -q 'file format elf32-i386' "$work/code" || fail "the code is not for IA-32"
