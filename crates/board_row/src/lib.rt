@@ -18,7 +18,8 @@ pub fn ax(ah: u8, al: u8) -> u32
     u32::from(ah) * 256 + u32::from(al)
 }
 
-// Writes the common words and four numbers of the case; the words behind them are 0. Carry is set exactly if AH is not 0.
+// Writes the common words and four numbers of the case, one by one as they go out to C; the words behind them are 0. Carry is set exactly if AH
+// is not 0.
 #[tactic(auto, unfolding(crate::specs::Row::row_of))]
 pub fn put(
     answer: &mut [u32; 16],

@@ -1,4 +1,5 @@
-// The steps that make a call. Each writes a line.
+// The steps that make a call. Each writes a line. Each call has a function of its own with the lengths that are set, here and in `indexed` and
+// `indexes`: it says that the line is its call's on the parts.
 ghost use Rattle.std.specs.Prelude.{◌≡◌, ◌≤◌, ◌++◌, length, take, drop, IfOk};
 ghost use Rattle.test_vectors.specs.RunState.{Within, Kept};
 ghost use Rattle.test_vectors.specs.Operands.{call_operands, load_operands};

@@ -2,6 +2,7 @@
 ghost use Rattle.std.specs.Prelude.{◌≡◌};
 ghost use Rattle.test_vectors.specs.RunState.{begun, judged, called};
 
+// That there is room for the lengths (`Within`) is no invariant of the type: `judged` and the steps that set a length answer for any state.
 #[derive(Clone, Copy)]
 pub struct State {
     // lengths of the buffers
