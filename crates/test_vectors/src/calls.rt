@@ -8,7 +8,7 @@ ghost use Rattle.test_vectors.specs.CallLine.{buffers, parts, store_after, desti
 use crate::buffers::Memory;
 use crate::lines::Line;
 use crate::state::State;
-use crate::{digest, input, lines, state};
+use crate::{input, lines, state};
 use std::io;
 use std::io::{Print, Read};
 
@@ -92,12 +92,7 @@ fn call_line(
         destination,
         &mut answer,
     );
-    Line {
-        result,
-        answer,
-        store: digest::digest(store),
-        destination: digest::digest(destination),
-    }
+    Line::of(result, answer, store, destination)
 }
 
 // A load choice, and the line that tells of it.
@@ -107,12 +102,7 @@ fn load_line(l: LoadOperands, store: &[u8], destination: &[u8]) -> Line
 {
     let mut answer = [0xA5A5A5A5u32; 16];
     let result = board::update_store_load(l.loading, store, l.signature, l.platform, &mut answer);
-    Line {
-        result,
-        answer,
-        store: digest::digest(store),
-        destination: digest::digest(destination),
-    }
+    Line::of(result, answer, store, destination)
 }
 
 // The call with buffers and lists of the lengths that are set.

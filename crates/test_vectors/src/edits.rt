@@ -51,11 +51,6 @@ fn put_edit(b: &[u8; 7]) -> Edit
     }
 }
 
-// Reads the edit of opcode 2; none where the input ends before.
-fn read_fill<R: Read>(reader: &mut R) -> io::Result<Option<Edit>> {
-    Ok(input::read_array::<10, R>(reader)?.map(|b| fill_edit(&b)))
-}
-
 // Reads the edit of opcode 3, and the bytes that follow; none where they are too many, or the input ends before.
 fn read_put<R: Read>(reader: &mut R, bytes: &mut Following) -> io::Result<Option<Edit>> {
     let Some(b) = input::read_array::<7, R>(reader)? else {
@@ -64,15 +59,6 @@ fn read_put<R: Read>(reader: &mut R, bytes: &mut Following) -> io::Result<Option
     let e = put_edit(&b);
     let all = input::read_part(reader, bytes, 0, e.count)?;
     Ok(all.then_some(e))
-}
-
-// Reads the edit of opcode 2, or of opcode 3.
-fn read<R: Read>(reader: &mut R, op: u8, bytes: &mut Following) -> io::Result<Option<Edit>> {
-    if op == 2 {
-        read_fill(reader)
-    } else {
-        read_put(reader, bytes)
-    }
 }
 
 // Sets `n` bytes from `at` on to one byte.
@@ -113,6 +99,7 @@ fn set(buf: &mut [u8], e: Edit, bytes: &Following) -> bool
 }
 
 // Sets a part of the buffer that the edit names.
+// Buffers are numbers as the input has them: each is matched once, here and in `lengths`, where it is used.
 #[tactic(auto, unfolding(crate::specs::Edits::edit_good, crate::specs::Edits::edited_by, crate::specs::Edits::sets))]
 fn make(
     s: State,
@@ -135,19 +122,38 @@ fn make(
     }
 }
 
-// The step of opcode 2, or of opcode 3.
+// The step of opcode 2. No bytes follow it.
 #[tactic(auto, using(crate::specs::RunStateLaws::kept_within))]
-pub fn step<R: Read>(
+pub fn fill_step<R: Read>(
     reader: &mut R,
-    op: u8,
     s: State,
     memory: &mut Memory,
 ) -> io::Result<Option<State>>
     requires { Within s }
     ensures { IfOk result Kept }
 {
+    let bytes = [0u8; FOLLOWING];
+    let Some(b) = input::read_array::<10, R>(reader)? else {
+        return Ok(None);
+    };
+    Ok(make(
+        s,
+        fill_edit(&b),
+        &bytes,
+        &mut memory.store,
+        &mut memory.candidate,
+        &mut memory.destination,
+    ))
+}
+
+// The step of opcode 3.
+#[tactic(auto, using(crate::specs::RunStateLaws::kept_within))]
+pub fn put_step<R: Read>(reader: &mut R, s: State, memory: &mut Memory) -> io::Result<Option<State>>
+    requires { Within s }
+    ensures { IfOk result Kept }
+{
     let mut bytes = [0u8; FOLLOWING];
-    let Some(e) = read(reader, op, &mut bytes)? else {
+    let Some(e) = read_put(reader, &mut bytes)? else {
         return Ok(None);
     };
     Ok(make(
