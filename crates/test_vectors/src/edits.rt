@@ -1,6 +1,5 @@
 // The steps that set bytes of a buffer.
-ghost use Rattle.std.specs.Prelude.{◌≡◌, ◌+◌, ◌≤◌, length, replicate, IfOk};
-ghost use Rattle.bytes_copy.specs.Paste.{put_at};
+ghost use Rattle.std.specs.Prelude.{◌≡◌, IfOk};
 ghost use Rattle.test_vectors.specs.RunState.{judged, Within, Kept};
 ghost use Rattle.test_vectors.specs.Operands.{fill_edit, put_edit};
 ghost use Rattle.test_vectors.specs.Edits.{fits, edited, edited_by, edit_good};
@@ -61,17 +60,6 @@ fn read_put<R: Read>(reader: &mut R, bytes: &mut Following) -> io::Result<Option
     Ok(all.then_some(e))
 }
 
-// Sets `n` bytes from `at` on to one byte.
-#[tactic(auto, using(crate::specs::EditLaws::filling))]
-fn fill(buf: &mut [u8], at: usize, n: usize, byte: u8)
-    requires { at + n ≤ length buf.old }
-    ensures { buf.new ≡ put_at buf.old at (replicate n byte) n }
-{
-    for i in 0..n {
-        buf[at + i] = byte;
-    }
-}
-
 // Sets a part of a buffer: false where the buffer has no such part.
 #[tactic(auto, unfolding(crate::specs::Edits::fits, crate::specs::Edits::edited, crate::specs::Edits::source))]
 fn set(buf: &mut [u8], e: Edit, bytes: &Following) -> bool
@@ -85,7 +73,7 @@ fn set(buf: &mut [u8], e: Edit, bytes: &Following) -> bool
     }
     match e.byte {
         Some(byte) => {
-            fill(buf, at, n, byte);
+            buf[at..at + n].fill(byte);
             true
         }
         None => {
