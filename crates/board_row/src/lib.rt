@@ -2,14 +2,7 @@
 #![tactic(auto)]
 
 ghost use Rattle.std.specs.Prelude.{◌≡◌, ◌+◌, ◌*◌};
-ghost use Rattle.board_row.specs.Row.{flag_word, row_of};
-
-// 1 for true, 0 for false.
-pub fn flag_word(x: bool) -> u32
-    ensures { result ≡ flag_word x }
-{
-    u32::from(x)
-}
+ghost use Rattle.board_row.specs.Row.{row_of};
 
 // The image of AX.
 pub fn ax(ah: u8, al: u8) -> u32
