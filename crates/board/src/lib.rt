@@ -22,7 +22,8 @@ use store_index::{COLUMNS, after};
 // The image of AX of NOT_IMPLEMENTED.
 const UNKNOWN: u32 = 0x8600;
 
-// The four D042h calls. Function and sub-function are judged first, and an unknown one is answered at once.
+// The four D042h calls. Function and sub-function are judged first, and an unknown one is answered at once. The arguments come one by one as
+// from C: the IA-32 archive keeps no slice in a struct.
 pub fn update_store_call(
     function: u32,
     sub_function: u32,
@@ -73,7 +74,7 @@ pub fn update_store_call(
 }
 
 // The load choice.
-#[tactic(auto, using(load_choice::specs::LoadBoundLaws::load_inside))]
+#[tactic(auto, using(crate::specs::LoadAx::load_ax_outcome, load_choice::specs::LoadBoundLaws::load_inside))]
 pub fn update_store_load(
     loading: bool,
     store: &[u8],
@@ -87,7 +88,7 @@ pub fn update_store_load(
 {
     let choice = load_choice::choose(loading, store, signature, platform);
     board_load_words::load_words(choice, loading, store, answer);
-    board_load_words::load_ax(choice)
+    board_index_words::ax(choice)
 }
 
 // The index of a store, all unused for a bad one. An index is lent as four columns of 32 numbers, in C as 128 words.
@@ -149,7 +150,7 @@ pub fn update_store_read_indexed(
 }
 
 // The load choice through an index.
-#[tactic(auto, using(load_indexed::proofs::IndexedLoadLaws::indexed_inside))]
+#[tactic(auto, using(crate::specs::LoadAx::load_ax_outcome, load_indexed::proofs::IndexedLoadLaws::indexed_inside))]
 pub fn update_store_load_indexed(
     loading: bool,
     index: &[[u32; MOST_BLOCKS]; COLUMNS],
@@ -164,5 +165,5 @@ pub fn update_store_load_indexed(
 {
     let choice = load_indexed::choose_by(loading, store, index, signature, platform);
     board_load_words::load_words(choice, loading, store, answer);
-    board_load_words::load_ax(choice)
+    board_index_words::ax(choice)
 }

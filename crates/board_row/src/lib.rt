@@ -2,14 +2,7 @@
 #![tactic(auto)]
 
 ghost use Rattle.std.specs.Prelude.{◌≡◌, ◌+◌, ◌*◌};
-ghost use Rattle.board_row.specs.Row.{flag_word, row_of};
-
-// 1 for true, 0 for false.
-pub fn flag_word(x: bool) -> u32
-    ensures { result ≡ flag_word x }
-{
-    u32::from(x)
-}
+ghost use Rattle.board_row.specs.Row.{row_of};
 
 // The image of AX.
 pub fn ax(ah: u8, al: u8) -> u32
@@ -18,7 +11,8 @@ pub fn ax(ah: u8, al: u8) -> u32
     u32::from(ah) * 256 + u32::from(al)
 }
 
-// Writes the common words and four numbers of the case; the words behind them are 0. Carry is set exactly if AH is not 0.
+// Writes the common words and four numbers of the case, one by one as they go out to C; the words behind them are 0. Carry is set exactly if AH
+// is not 0.
 #[tactic(auto, unfolding(crate::specs::Row::row_of))]
 pub fn put(
     answer: &mut [u32; 16],

@@ -59,7 +59,7 @@ fn not_implemented(loading: bool) -> Reply
 }
 
 // The answer, the loading state after the call, and each byte of store and destination, for every input whatever. A call ignores the
-// arguments that aren't its own.
+// arguments that aren't its own. They come one by one as from C: the IA-32 archive keeps no slice in a struct.
 pub fn call(
     function: u32,
     sub: u32,

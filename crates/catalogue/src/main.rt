@@ -19,6 +19,7 @@ fn space() -> [u8; INPUT_ROOM]
 }
 
 // Reads until the buffer is full or the input ends, however it arrives, and answers how many bytes there are. A read that fails ends it.
+// The buffer is lent, so the count stands beside it.
 fn read<R: Read>(input: &mut R, buffer: &mut [u8]) -> io::Result<usize>
     ensures { IfOk result (λ n. n ≤ length buffer.new) }
 {

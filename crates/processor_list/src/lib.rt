@@ -58,7 +58,7 @@ pub fn covered(signatures: &[u32], platforms: &[u8], candidate: &[u8], pairs: Pa
     marks
 }
 
-// Is one of the first `n` marks set?
+// Is one of the first `n` marks set? The marks are an array of the most processors, since nothing is allocated; the list has `n`.
 #[tactic(auto, using(laws::specs::Loops::scan), unfolding(laws::specs::Arrays::mark_at))]
 pub fn covers_one(marks: [bool; 8], n: usize) -> bool
     requires { n ≤ 8 }

@@ -13,6 +13,7 @@ fn fitting(size: usize, have: usize, n: usize) -> usize
 }
 
 // Puts a piece behind the `have` bytes that the buffer holds, as far as there is room, and answers how many it holds now.
+// The buffer is lent, so the count stands beside it.
 #[tactic(auto, unfolding(crate::specs::Input::fitting))]
 pub fn add(buffer: &mut [u8], have: usize, piece: &[u8]) -> usize
     ensures value { result ≡ count_with buffer.old have piece.now }

@@ -1,5 +1,7 @@
 -- Laws of a text in a lent buffer.
---   giving                     the two ways, as `search` takes them
+--   given_fits, given_short    what becomes of a text that fits, and of one that doesn't
+--   bytes_fit, bytes_short     and the buffer afterwards
+--   giving                     the four, as `search` takes them
 --   given_inside, given_cut    a text that was given lies within the buffer, and its part there has its length
 use Rattle.std.specs.Prelude.{ℕ, ◌<◌, ◌≤◌, ◌≡◌, Bool, List, ◌++◌, Ok, take, leb}
 use Rattle.std.proofs.Common.{sym, ◌∙◌, length-take-le, arith}

@@ -20,6 +20,7 @@ pub struct ShortBuffer {
 pub type Report = Result<u32, ShortBuffer>;
 
 // A text that is being made. An array with a length: `no_text` and `added` fix the bytes behind it too, of which an `ArrayVec` says nothing.
+// No ghost field for its bound: `added` makes a text of any bytes.
 #[derive(Clone, Copy)]
 pub struct Text {
     pub bytes: [u8; ROOM],
@@ -64,7 +65,7 @@ impl Text {
         r
     }
 
-    // A number below 100, without padding. One or two digits need no buffer of their own, as the library's printing does.
+    // A number below 100, without padding. By hand: the library's printing needs a buffer of its own, which one or two digits don't.
     #[tactic(auto, using(crate::specs::DigitLaws::decimal_one, crate::specs::DigitLaws::decimal_two, crate::specs::TextLaws::added_twice))]
     pub fn decimal(self, n: u32) -> Text
         requires { TwoDigits n × (self.len + 2 ≤ text_room) }
@@ -94,15 +95,11 @@ impl Text {
     }
 }
 
-// By hand: `char::from_digit` gives lower-case letters.
-#[tactic(auto, using(laws::specs::Tests::cases), unfolding(crate::specs::Digits::hex_digit))]
+// By a table: `char::from_digit` gives lower-case letters.
+#[tactic(auto, unfolding(crate::specs::Digits::hex_digit))]
 fn hex_digit(d: u32) -> u8
     requires { d < 16 }
     ensures { result ≡ hex_digit d }
 {
-    if d < 10 {
-        b'0' + d as u8
-    } else {
-        b'A' + (d - 10) as u8
-    }
+    b"0123456789ABCDEF"[d as usize]
 }

@@ -51,7 +51,7 @@ pub fn from_block(s: &[u8], b: u32) -> &[u8]
     &s[at..]
 }
 
-// The same, by a first block of a directory.
+// The same, by a first block of a directory, which is a byte.
 pub fn from_start(s: &[u8], start: u8) -> &[u8]
     ensures { result.now ≡ from_block s.now start }
 {

@@ -5,6 +5,7 @@ ghost use Rattle.store_blocks.specs.Slot.{fits, slot_of};
 
 use crate::{BLOCK, filled, unused};
 
+// Three kinds, and no Result of an Option: a bad slot is what the reading finds, and only the directory refuses the store for it.
 #[derive(Clone, Copy)]
 pub enum Slot {
     Unused,

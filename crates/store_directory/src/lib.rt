@@ -11,7 +11,8 @@ ghost use Rattle.store_directory.specs.Scan.{stored};
 
 use store_blocks::MOST_BLOCKS;
 
-// Arrays of 32 with a count, since the library takes no memory of its own; not one array of structs, since each is lent as it stands.
+// Arrays of 32 with a count, since the library takes no memory of its own. Not one array of structs: the marks take both arrays over as they
+// stand, and the definitions speak of each by itself (`starts_to`, `HavePairs`, `clash`).
 #[derive(Clone, Copy)]
 pub struct Directory {
     // how many updates it holds

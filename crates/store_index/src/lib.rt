@@ -58,7 +58,7 @@ pub struct Index {
     pub sizes: [u32; MOST_BLOCKS],
 }
 
-// The columns of an index, to be lent.
+// The columns of an index, to be lent. A function, and no From, as `index_in` is: callers use these names, which are the definitions' too.
 pub fn columns_of(x: Index) -> [[u32; MOST_BLOCKS]; COLUMNS]
     ensures { result ≡ columns_of x }
 {

@@ -24,7 +24,8 @@ pub fn put_line(columns: &mut [[u32; MOST_BLOCKS]; COLUMNS], b: usize, line: Lin
     columns[SIZES][b] = line.size;
 }
 
-// Writes the lines of an update of `size` blocks from `start` on, up to block `end`. The others stay.
+// Writes the lines of an update of `size` blocks from `start` on, up to block `end`. The others stay. The numbers come one by one, as C passes
+// them on for a carried index.
 pub fn put_lines(
     columns: &mut [[u32; MOST_BLOCKS]; COLUMNS],
     start: u32,

@@ -31,7 +31,7 @@ fn used_lines(columns: &[[u32; MOST_BLOCKS]; COLUMNS]) -> u32
     used
 }
 
-// Gathers where the lines of an update differ from what they should be.
+// Gathers where the lines of an update differ from what they should be, which is said of its three numbers (`UpdateFrom`).
 fn update_lines(
     columns: &[[u32; MOST_BLOCKS]; COLUMNS],
     differs: u32,

@@ -1,11 +1,12 @@
 -- Laws of the judgement, and of two buffers with the same first n bytes.
---   written_none .. written_there    a return at each test of `written_right`
+--   written_none .. written_there    what `written_right` is as each of its tests comes out; in the code it is one expression
 --   full_both, full_none             the two ways of `full_al`
---   refused_found .. refused_so      a return at each test of `refused_right`
+--   refused_found .. refused_so      the same for `refused_right`
 --   same_fronts                      both buffers reach so far: they have where their fronts are equal
 --   same_short, same_other           one of them doesn't
 --   same_differs                     byte i differs
---   same_more, same_done             the loop over the bytes
+--   same_more, same_done             the first i bytes are the same: so are the first i + 1, and at i = n the buffers have the same first n;
+--                                    the code compares the two parts as slices, by `same_fronts`
 use Rattle.std.specs.Prelude.{◌≡◌, ℕ, ◌+◌, ◌<◌, ◌≤◌, Bool, true, false, ◌&&◌, List, length, take, ◌==◌, ◌≢◌, nat_eq, nat_lt, slice_index, Option, Some, None}
 use Rattle.std.specs.Cmp.Lexicographic.{pointwise}
 use Rattle.std.proofs.Common.{sym, ap, ◌∙◌, refl, add-one, arith}

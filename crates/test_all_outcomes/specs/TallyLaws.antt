@@ -1,4 +1,4 @@
--- Laws of tallies, in the form in which a proof of the code takes them: a and b are the numbers that calls answered.
+-- Laws of tallies, in the form in which a proof of the code takes them: a and b are sums with one more, which wrap at 2^32.
 --   written_few, written_many                    the two ways of `with_written`
 --   refused_both, refused_full, refused_other    the three of `with_refused`
 --   number_written, number_refused               the two of `with_became`: n is its number

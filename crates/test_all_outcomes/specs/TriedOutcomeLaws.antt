@@ -1,10 +1,10 @@
 -- Laws of the outcomes, in the form in which a proof of the code takes them: r is what a call answered, z what the code returns.
 --   any_four, all_four                        the four updates gone through by an iterator
---   free_inside .. free_other                 a return at each test of `free_of`
+--   free_inside .. free_other                 what `free_of` is as each of its tests comes out; in the code it is one expression
 --   run_outside .. run_done                   a return at each test of `open_at`, and the loop over the run
---   allowed_unstored .. allowed_outside       a return at each test of `allowed_at`
---   legal_no, legal_yes                       a return at each test of `legal`
---   worse_no, worse_yes                       a return at each test of `no_worse`
+--   allowed_unstored .. allowed_outside       the same for `allowed_at`
+--   legal_no, legal_yes                       the same for `legal`
+--   worse_no, worse_yes                       the same for `no_worse`, by whether there is an outcome
 --   better_illegal, better_old, better_new    a return at each test of `better`
 --   best_none .. best_done                    the loop over the sets
 --   start_none .. start_done                  the loop over the starts

@@ -3,6 +3,7 @@
 ghost use Rattle.std.specs.Prelude.{◌≡◌, ◌+◌};
 ghost use Rattle.test_all_outcomes.specs.SmallLayouts.{unused, block_bytes, with_update, kind_size, with_kind, codes, coded, owns, both_marks};
 
+// Four arrays, not one of updates: the definitions of specs/ speak of each by itself.
 #[derive(Clone, Copy)]
 pub struct Layout {
     pub blocks: u32,

@@ -1,4 +1,4 @@
-// One write tried, and compared with the best outcome.
+// One write tried, and compared with the best outcome. `store` and `wanted` are lent side by side: each is written, at another time.
 ghost use Rattle.std.specs.Prelude.{◌≡◌};
 ghost use Rattle.test_all_outcomes.specs.MadeStores.{store_of};
 ghost use Rattle.test_all_outcomes.specs.WantedStores.{emptied_at, emptied_to, candidate_at, wanted_in};

@@ -3,7 +3,7 @@ use crate::numbers::Index;
 use std::io;
 use std::io::Print;
 use store_blocks::MOST_BLOCKS;
-use store_index::{KINDS, REVISIONS, SIZES, STARTS};
+use store_index::{KINDS, Line, REVISIONS, SIZES, STARTS};
 
 // A label, the result, and the answer words.
 pub fn answer<P: Print>(out: &P, label: &[u8], ax: u32, answer: &[u32; 16]) -> io::Result<()> {
@@ -13,21 +13,14 @@ pub fn answer<P: Print>(out: &P, label: &[u8], ax: u32, answer: &[u32; 16]) -> i
     test_output::text(out, b"\n")
 }
 
-// Line `b` of an index: block, kind, start, revision and size. One of zeros is left out.
-fn line<P: Print>(
-    out: &P,
-    b: u32,
-    kind: u32,
-    start: u32,
-    revision: u32,
-    size: u32,
-) -> io::Result<()> {
-    if (kind | start | revision | size) != 0 {
+// The line of block `b`: block, kind, start, revision and size. One of zeros is left out.
+fn line<P: Print>(out: &P, b: u32, l: Line) -> io::Result<()> {
+    if (l.kind | l.start | l.revision | l.size) != 0 {
         test_output::number(out, b"  ", b)?;
-        test_output::number(out, b": ", kind)?;
-        test_output::number(out, b" ", start)?;
-        test_output::number(out, b" ", revision)?;
-        test_output::number(out, b" ", size)?;
+        test_output::number(out, b": ", l.kind)?;
+        test_output::number(out, b" ", l.start)?;
+        test_output::number(out, b" ", l.revision)?;
+        test_output::number(out, b" ", l.size)?;
         test_output::text(out, b"\n")?;
     }
     Ok(())
@@ -36,14 +29,13 @@ fn line<P: Print>(
 // The lines of an index.
 pub fn index<P: Print>(out: &P, x: &Index) -> io::Result<()> {
     for b in 0..MOST_BLOCKS {
-        line(
-            out,
-            b as u32,
-            x[KINDS][b],
-            x[STARTS][b],
-            x[REVISIONS][b],
-            x[SIZES][b],
-        )?;
+        let l = Line {
+            kind: x[KINDS][b],
+            start: x[STARTS][b],
+            revision: x[REVISIONS][b],
+            size: x[SIZES][b],
+        };
+        line(out, b as u32, l)?;
     }
     Ok(())
 }

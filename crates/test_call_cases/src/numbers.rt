@@ -1,4 +1,5 @@
 // The 128 numbers of an index: kinds, starts, revisions and sizes of the 32 blocks.
+// As in test_vectors: a program shares no types with another.
 ghost use Rattle.std.specs.Prelude.{◌≡◌, [], ◌<◌, get_or, set};
 ghost use Rattle.test_call_cases.specs.SameNumbers.{same_numbers};
 
@@ -9,7 +10,8 @@ pub const NUMBERS: usize = 128;
 
 pub type Index = [[u32; MOST_BLOCKS]; COLUMNS];
 
-// Are all the numbers of two indexes the same? By a loop: the proof of `x == y` lacks a law that a row of an array of arrays has its 32 numbers.
+// Are all the numbers of two indexes the same? By a loop: the proof of `x == y` lacks a law that a row of an array of arrays has its 32
+// numbers.
 #[tactic(auto, using(crate::specs::SameNumberLaws::samenesses))]
 pub fn same(x: &Index, y: &Index) -> bool
     ensures { result ≡ same_numbers x.now y.now }

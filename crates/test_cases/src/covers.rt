@@ -1,4 +1,4 @@
-// Cases of coverage.
+// Cases of coverage, a function for each way to make the update.
 use crate::lines;
 use std::io;
 use std::io::Print;

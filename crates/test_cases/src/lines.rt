@@ -101,7 +101,7 @@ pub fn reply<P: Print>(out: &P, label: &[u8], answer: Answer) -> io::Result<()> 
     test_output::text(out, b"\n")
 }
 
-// The loading state after a call.
+// The loading state after a call. Not one function with `answer`: only the words differ, and lent to it they make each call longer.
 pub fn loading<P: Print>(out: &P, on: bool) -> io::Result<()> {
     if on {
         test_output::text(out, b"  loading on\n")

@@ -1,4 +1,4 @@
-// Cases of the verdict: the checksum and the sizes of one update.
+// Cases of the verdict: the checksum and the sizes of one update. A function for each way to make the update: they differ in what they call.
 use crate::lines;
 use std::io;
 use std::io::Print;

@@ -1,5 +1,6 @@
 -- Laws of a step that sets bytes.
---   fill_none, fill_more, fill_done    the loop that sets n bytes from `at` on to one byte
+--   fill_none, fill_more, fill_done    n bytes from `at` on set to one byte, one after another: none, one more, all
+--   fill_part                          the part as a slice, all of it one byte, put back in its place
 --   no_part, too_many                  the ways of the code on which nothing is set
 --   put_set, fill_set                  those on which the part is set
 --   Made                               the state and the three buffers after the step are those of the definitions
@@ -10,6 +11,8 @@ use Rattle.std.proofs.Math.Bool.{and-false}
 use Rattle.std.proofs.Math.Numerals.{add-one}
 use Rattle.std.proofs.Math.ListN.{length-replicate, get_or-replicate}
 use Rattle.std.proofs.Math.Seq.{paste-zero, paste-suc}
+use Rattle.std.proofs.lemmas.Slice.{put_mid-paste}
+use borrow.Rule.Slice.PartMut.{put_mid}
 use borrow.Author.Tests.{le-leb, lt-leb, ne_eqb}
 use Rattle.bytes_copy.specs.Paste.{put_at}
 use Rattle.test_vectors.specs.declared.edits.Edit.{Edit}
@@ -29,6 +32,10 @@ module _ (d : List ℕ) (at n byte : ℕ) where
 
   pub fill_done : (r : List ℕ) (i : ℕ) → r ≡ put_at d at (replicate n byte) i → i ≤ n → n ≤ i → r ≡ put_at d at (replicate n byte) n
   fill_done r i e p q = let k : i ≡ n = omega arith in rw k at e
+
+  pub fill_part : (k : ℕ) (ys : List ℕ) → ys ≡ replicate n byte → n ≡ k → put_mid at k d ys ≡ put_at d at (replicate n byte) n
+  unfolding put_at
+  fill_part k ys e q = put_mid-paste at k d ys (replicate n byte) n e q (omega (arith, length-replicate {A = ℕ} n byte))
 
 module _ (e : Edit) (bytes s : List ℕ) where
   pub no_part : length s < e.offset + e.count → (false ≡ fits e s) × (s ≡ edited e bytes s)

@@ -1,5 +1,6 @@
 -- A step that sets bytes of a buffer.
 --   following    how many bytes may follow a step
+--   source_of    the one byte, where there is one, as often as counted; else the bytes that follow
 --   source       the bytes that it puts: the one byte as often as counted, or those that follow
 --   few          no more bytes follow than may
 --   fits         the buffer has such a part, and no more bytes follow than may

@@ -3,6 +3,7 @@ pub mod RunState
 pub mod RunStateLaws
 pub mod Digest
 pub mod DigestLaws
+pub mod Lines
 pub mod Operands
 pub mod OperandLaws
 pub mod Edits

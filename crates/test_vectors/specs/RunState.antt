@@ -5,7 +5,7 @@
 --   judged                    after a step that changed nothing of it; none after one that breaks a bound
 --   called                    after a call
 --   with_length               with another length of buffer 0, 1 or 2; none where there is no such buffer, or no room for it
---   with_lengths              with other lengths of the two lists; none where there is no room for one, or they weren't read
+--   with_lengths              with other lengths of the two lists; none where there is no room for one
 --   Within                    there is room for each length
 --   Kept                      so there is, if there is a state
 use Rattle.std.specs.Prelude.{ℕ, ◌+◌, ◌%◌, ◌^◌, ◌≤◌, Bool, cond, ◌&&◌, ◌==◌, nat_le, Option, Some, None, IfSome}
@@ -42,9 +42,9 @@ with_length s buffer n =
     (cond (buffer == 1 && nat_le n candidate_room) (Some (state s.store n s.destination s.signatures s.platforms s.calls))
     (cond (buffer == 2 && nat_le n destination_room) (Some (state s.store s.candidate n s.signatures s.platforms s.calls)) None))
 
-unfoldable pub with_lengths : State → ℕ → ℕ → Bool → Option State
-with_lengths s m n good =
-    cond (good && nat_le m list_room && nat_le n list_room) (Some (state s.store s.candidate s.destination m n s.calls)) None
+unfoldable pub with_lengths : State → ℕ → ℕ → Option State
+with_lengths s m n =
+    cond (nat_le m list_room && nat_le n list_room) (Some (state s.store s.candidate s.destination m n s.calls)) None
 
 pub record Within (s : State) : Type 0 where
   pub store : s.store ≤ store_room

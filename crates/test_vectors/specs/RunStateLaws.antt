@@ -11,7 +11,7 @@ use Rattle.laws.specs.Bools.{and_parts}
 use Rattle.test_vectors.specs.declared.state.State.{State}
 use Rattle.test_vectors.specs.RunState.{store_room, candidate_room, destination_room, list_room, begun, judged, called, with_length, with_lengths, Within, Kept}
 
--- a test passed, or what comes then
+-- one arm of a definition by tests: where `a` holds, there is room in x; where it doesn't, the arms behind keep it
 passed : (a : Bool) (x : State) (y : Option State) → (a ≡ true → Within x) → Kept y → Kept (cond a (Some x) y)
 passed true x y f h = f refl
 passed false x y f h = h
@@ -57,18 +57,18 @@ module _ (s : State) (r : Option State) (w : Within s) where
       })
       tt)))
 
-  pub lengths_within : (m n : ℕ) (good : Bool) → r ≡ with_lengths s m n good → Kept r
+  pub lengths_within : (m n : ℕ) → r ≡ with_lengths s m n → Kept r
   unfolding with_lengths
-  lengths_within m n good e =
+  lengths_within m n e =
       rw e
-      (passed (good && nat_le m list_room && nat_le n list_room) _ _
+      (passed (nat_le m list_room && nat_le n list_room) _ _
       (λ q.
-      let p = and_parts (good && nat_le m list_room) (nat_le n list_room) q in
+      let p = and_parts (nat_le m list_room) (nat_le n list_room) q in
       record {
         store = w.store;
         candidate = w.candidate;
         destination = w.destination;
-        signatures = leb-true m list_room (and_parts good (nat_le m list_room) p.0).1;
+        signatures = leb-true m list_room p.0;
         platforms = leb-true n list_room p.1;
       })
       tt)

@@ -1,4 +1,5 @@
-// The steps that make a call. Each writes a line.
+// The steps that make a call. Each writes a line. Each call has a function of its own with the lengths that are set, here and in `indexed` and
+// `indexes`: it says that the line is its call's on the parts.
 ghost use Rattle.std.specs.Prelude.{◌≡◌, ◌≤◌, ◌++◌, length, take, drop, IfOk};
 ghost use Rattle.test_vectors.specs.RunState.{Within, Kept};
 ghost use Rattle.test_vectors.specs.Operands.{call_operands, load_operands};
@@ -7,7 +8,7 @@ ghost use Rattle.test_vectors.specs.CallLine.{buffers, parts, store_after, desti
 use crate::buffers::Memory;
 use crate::lines::Line;
 use crate::state::State;
-use crate::{digest, input, lines, state};
+use crate::{input, lines, state};
 use std::io;
 use std::io::{Print, Read};
 
@@ -91,12 +92,7 @@ fn call_line(
         destination,
         &mut answer,
     );
-    Line {
-        result,
-        answer,
-        store: digest::digest(store),
-        destination: digest::digest(destination),
-    }
+    Line::of(result, answer, store, destination)
 }
 
 // A load choice, and the line that tells of it.
@@ -106,12 +102,7 @@ fn load_line(l: LoadOperands, store: &[u8], destination: &[u8]) -> Line
 {
     let mut answer = [0xA5A5A5A5u32; 16];
     let result = board::update_store_load(l.loading, store, l.signature, l.platform, &mut answer);
-    Line {
-        result,
-        answer,
-        store: digest::digest(store),
-        destination: digest::digest(destination),
-    }
+    Line::of(result, answer, store, destination)
 }
 
 // The call with buffers and lists of the lengths that are set.

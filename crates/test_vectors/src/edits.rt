@@ -1,6 +1,5 @@
 // The steps that set bytes of a buffer.
-ghost use Rattle.std.specs.Prelude.{◌≡◌, ◌+◌, ◌≤◌, length, replicate, IfOk};
-ghost use Rattle.bytes_copy.specs.Paste.{put_at};
+ghost use Rattle.std.specs.Prelude.{◌≡◌, IfOk};
 ghost use Rattle.test_vectors.specs.RunState.{judged, Within, Kept};
 ghost use Rattle.test_vectors.specs.Operands.{fill_edit, put_edit};
 ghost use Rattle.test_vectors.specs.Edits.{fits, edited, edited_by, edit_good};
@@ -51,11 +50,6 @@ fn put_edit(b: &[u8; 7]) -> Edit
     }
 }
 
-// Reads the edit of opcode 2; none where the input ends before.
-fn read_fill<R: Read>(reader: &mut R) -> io::Result<Option<Edit>> {
-    Ok(input::read_array::<10, R>(reader)?.map(|b| fill_edit(&b)))
-}
-
 // Reads the edit of opcode 3, and the bytes that follow; none where they are too many, or the input ends before.
 fn read_put<R: Read>(reader: &mut R, bytes: &mut Following) -> io::Result<Option<Edit>> {
     let Some(b) = input::read_array::<7, R>(reader)? else {
@@ -64,26 +58,6 @@ fn read_put<R: Read>(reader: &mut R, bytes: &mut Following) -> io::Result<Option
     let e = put_edit(&b);
     let all = input::read_part(reader, bytes, 0, e.count)?;
     Ok(all.then_some(e))
-}
-
-// Reads the edit of opcode 2, or of opcode 3.
-fn read<R: Read>(reader: &mut R, op: u8, bytes: &mut Following) -> io::Result<Option<Edit>> {
-    if op == 2 {
-        read_fill(reader)
-    } else {
-        read_put(reader, bytes)
-    }
-}
-
-// Sets `n` bytes from `at` on to one byte.
-#[tactic(auto, using(crate::specs::EditLaws::filling))]
-fn fill(buf: &mut [u8], at: usize, n: usize, byte: u8)
-    requires { at + n ≤ length buf.old }
-    ensures { buf.new ≡ put_at buf.old at (replicate n byte) n }
-{
-    for i in 0..n {
-        buf[at + i] = byte;
-    }
 }
 
 // Sets a part of a buffer: false where the buffer has no such part.
@@ -99,7 +73,7 @@ fn set(buf: &mut [u8], e: Edit, bytes: &Following) -> bool
     }
     match e.byte {
         Some(byte) => {
-            fill(buf, at, n, byte);
+            buf[at..at + n].fill(byte);
             true
         }
         None => {
@@ -113,6 +87,7 @@ fn set(buf: &mut [u8], e: Edit, bytes: &Following) -> bool
 }
 
 // Sets a part of the buffer that the edit names.
+// Buffers are numbers as the input has them: each is matched once, here and in `lengths`, where it is used.
 #[tactic(auto, unfolding(crate::specs::Edits::edit_good, crate::specs::Edits::edited_by, crate::specs::Edits::sets))]
 fn make(
     s: State,
@@ -135,19 +110,38 @@ fn make(
     }
 }
 
-// The step of opcode 2, or of opcode 3.
+// The step of opcode 2. No bytes follow it.
 #[tactic(auto, using(crate::specs::RunStateLaws::kept_within))]
-pub fn step<R: Read>(
+pub fn fill_step<R: Read>(
     reader: &mut R,
-    op: u8,
     s: State,
     memory: &mut Memory,
 ) -> io::Result<Option<State>>
     requires { Within s }
     ensures { IfOk result Kept }
 {
+    let bytes = [0u8; FOLLOWING];
+    let Some(b) = input::read_array::<10, R>(reader)? else {
+        return Ok(None);
+    };
+    Ok(make(
+        s,
+        fill_edit(&b),
+        &bytes,
+        &mut memory.store,
+        &mut memory.candidate,
+        &mut memory.destination,
+    ))
+}
+
+// The step of opcode 3.
+#[tactic(auto, using(crate::specs::RunStateLaws::kept_within))]
+pub fn put_step<R: Read>(reader: &mut R, s: State, memory: &mut Memory) -> io::Result<Option<State>>
+    requires { Within s }
+    ensures { IfOk result Kept }
+{
     let mut bytes = [0u8; FOLLOWING];
-    let Some(e) = read(reader, op, &mut bytes)? else {
+    let Some(e) = read_put(reader, &mut bytes)? else {
         return Ok(None);
     };
     Ok(make(

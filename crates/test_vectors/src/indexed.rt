@@ -8,7 +8,7 @@ use crate::buffers::{Index, Memory};
 use crate::calls::LoadOperands;
 use crate::lines::Line;
 use crate::state::State;
-use crate::{calls, digest, input, lines, state};
+use crate::{calls, input, lines, state};
 use std::io;
 use std::io::{Print, Read};
 
@@ -36,12 +36,7 @@ fn read_line(c: ReadOperands, index: &Index, store: &[u8], destination: &mut [u8
 {
     let mut answer = [0xA5A5A5A5u32; 16];
     let result = board::update_store_read_indexed(index, c.block, store, destination, &mut answer);
-    Line {
-        result,
-        answer,
-        store: digest::digest(store),
-        destination: digest::digest(destination),
-    }
+    Line::of(result, answer, store, destination)
 }
 
 // A load choice, and the line that tells of it.
@@ -58,12 +53,7 @@ fn load_line(l: LoadOperands, index: &Index, store: &[u8], destination: &[u8]) -
         l.platform,
         &mut answer,
     );
-    Line {
-        result,
-        answer,
-        store: digest::digest(store),
-        destination: digest::digest(destination),
-    }
+    Line::of(result, answer, store, destination)
 }
 
 // The read with buffers of the lengths that are set.

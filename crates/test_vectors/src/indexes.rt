@@ -59,14 +59,8 @@ fn make_line(store: &[u8], destination: &[u8], index: &mut Index) -> IndexLine
 {
     let mut answer = [0xA5A5A5A5u32; 16];
     let result = board::update_store_index(store, index, &mut answer);
-    let line = Line {
-        result,
-        answer,
-        store: digest::digest(store),
-        destination: digest::digest(destination),
-    };
     IndexLine {
-        line,
+        line: Line::of(result, answer, store, destination),
         index: digest::numbers(index),
     }
 }
@@ -93,14 +87,8 @@ fn after_line(
         new_index,
         &mut answer,
     );
-    let line = Line {
-        result,
-        answer,
-        store: digest::digest(store),
-        destination: digest::digest(destination),
-    };
     IndexLine {
-        line,
+        line: Line::of(result, answer, store, destination),
         index: digest::numbers(new_index),
     }
 }

@@ -9,6 +9,7 @@ use std::io;
 use std::io::Read;
 
 // The state with another length of buffer 0, 1 or 2; none where there is no such buffer, or no room for it.
+// Buffers are numbers as the input has them: each is matched once, here and in `edits`, where it is used.
 #[tactic(auto, unfolding(crate::specs::RunState::with_length))]
 fn with_length(s: State, buffer: u8, length: u32) -> Option<State>
     ensures { result ≡ with_length s buffer length }

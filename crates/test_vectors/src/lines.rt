@@ -1,4 +1,8 @@
 // The lines of output.
+ghost use Rattle.std.specs.Prelude.{◌≡◌};
+ghost use Rattle.test_vectors.specs.Lines.{line_of};
+
+use crate::digest;
 use crate::state::State;
 use std::io;
 use std::io::Print;
@@ -10,6 +14,20 @@ pub struct Line {
     pub answer: [u32; 16],
     pub store: u32,
     pub destination: u32,
+}
+
+impl Line {
+    // The line of a result, the answer words, the store and the destination.
+    pub fn of(returned: u32, answer: [u32; 16], store: &[u8], destination: &[u8]) -> Line
+        ensures { result ≡ line_of returned answer store.now destination.now }
+    {
+        Line {
+            result: returned,
+            answer,
+            store: digest::digest(store),
+            destination: digest::digest(destination),
+        }
+    }
 }
 
 // The line of a call that makes an index, with its digest behind.

@@ -32,14 +32,14 @@ fn read_signatures<R: Read>(reader: &mut R, list: &mut Signatures, m: u8) -> io:
     Ok(good)
 }
 
-// The state with other lengths of the lists; none where there is no room for one, or they weren't read.
+// The state with other lengths of the lists; none where there is no room for one.
 #[tactic(auto, unfolding(crate::specs::RunState::with_lengths))]
-fn with_lengths(s: State, signatures: u8, platforms: u8, good: bool) -> Option<State>
-    ensures { result ≡ with_lengths s signatures platforms good }
+fn with_lengths(s: State, signatures: u8, platforms: u8) -> Option<State>
+    ensures { result ≡ with_lengths s signatures platforms }
 {
     let m = usize::from(signatures);
     let n = usize::from(platforms);
-    (good && m <= LIST && n <= LIST).then_some(State {
+    (m <= LIST && n <= LIST).then_some(State {
         signatures: m,
         platforms: n,
         ..s
@@ -54,10 +54,14 @@ pub fn list<R: Read>(reader: &mut R, s: State, memory: &mut Memory) -> io::Resul
     let Some(m) = input::read_byte(reader)? else {
         return Ok(None);
     };
-    let some = read_signatures(reader, &mut memory.signatures, m)?;
+    if !read_signatures(reader, &mut memory.signatures, m)? {
+        return Ok(None);
+    }
     let Some(n) = input::read_byte(reader)? else {
         return Ok(None);
     };
-    let all = input::read_part(reader, &mut memory.platforms, 0, u32::from(n))?;
-    Ok(with_lengths(s, m, n, some && all))
+    if !input::read_part(reader, &mut memory.platforms, 0, u32::from(n))? {
+        return Ok(None);
+    }
+    Ok(with_lengths(s, m, n))
 }

@@ -21,6 +21,7 @@ use std::io;
 use std::io::{Print, Read};
 
 // The step with an opcode. There is no state after one that breaks a bound.
+// Each step takes other parameters, so closures for the opcodes would be no plainer.
 fn step<P: Print, R: Read>(
     out: &P,
     reader: &mut R,
@@ -33,7 +34,8 @@ fn step<P: Print, R: Read>(
 {
     match op {
         1 => lengths::length(reader, s),
-        2 | 3 => edits::step(reader, op, s, memory),
+        2 => edits::fill_step(reader, s, memory),
+        3 => edits::put_step(reader, s, memory),
         4 => lists::list(reader, s, memory),
         5 => calls::call(out, reader, s, memory),
         6 => calls::load(out, reader, s, memory),

@@ -2,9 +2,10 @@
 ghost use Rattle.std.specs.Prelude.{◌≡◌};
 ghost use Rattle.test_vectors.specs.RunState.{begun, judged, called};
 
+// That there is room for the lengths (`Within`) is no invariant of the type: `judged` and the steps that set a length answer for any state.
 #[derive(Clone, Copy)]
 pub struct State {
-    // lengths of the buffers
+    // lengths of the buffers. The buffers are fixed and stand in `Memory`; a length says how much of one is lent.
     pub store: usize,
     pub candidate: usize,
     pub destination: usize,

@@ -138,7 +138,7 @@ fn covers_at(u: &[u8], pairs: Pairs, i: u32, signature: u32, platform: u32) -> b
     signature_at(u, pairs, i) == signature && names(platforms_at(u, pairs, i), platform)
 }
 
-// Does the update with these pairs cover the processor? The loop goes by number: a closure that captures the bytes doesn't fit the IA-32 archive.
+// Does the update with these pairs cover the processor? The loop goes by number: a closure that captures bytes doesn't fit the IA-32 archive.
 #[tactic(auto, using(laws::specs::Loops::scan, crate::proofs::PairLaws::count_is), unfolding(crate::specs::Covers::covers))]
 pub fn covers_with(u: &[u8], pairs: Pairs, signature: u32, platform: u32) -> bool
     requires { pairs ≡ pairs_of u.now }

@@ -11,6 +11,7 @@ pub const DATA_SIZE_AT: usize = 28;
 // Where T stands.
 pub const TOTAL_SIZE_AT: usize = 32;
 
+// One function for each field, since callers know them by these names.
 // Must be 1.
 pub fn version(s: &[u8]) -> u32
     ensures { result ≡ version s.now }

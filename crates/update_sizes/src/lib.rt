@@ -44,7 +44,7 @@ pub fn total_size_of(d: u32, t: u32) -> u32
 }
 
 // The rule for D and T, with the table's count field. No sum is taken in 32 bits, so a huge D can't look small. With a table T is a multiple
-// of 4 because D is.
+// of 4 because D is. The three stay plain numbers, as its definition and its laws take them.
 #[tactic(auto, unfolding(crate::specs::Sizes::sizes_ok))]
 pub fn sizes_ok(d: u32, t: u32, n: u32) -> bool
     ensures { result ≡ sizes_ok d t n }

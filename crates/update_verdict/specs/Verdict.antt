@@ -1,7 +1,7 @@
 -- The verdict on any bytes, in the order of the write's checks 2 to 4 (document 01, "The calls"). Bytes behind T are ignored.
 --   header_ok, sizes_fit  checks 2 and 3 (`header`, Checks); sums_ok is check 4 (`Sums`)
 --   Verdict               what a good update says of its sizes, or why it is bad
---   Good                  T, data size, entries and blocks; BadHeader is 95, BadSum 96
+--   measures, Good        T, data size, entries and blocks; BadHeader is 95, BadSum 96
 --   verdict               the verdict on the bytes
 use Rattle.std.specs.Prelude.{ℕ, List, Result, Ok, Err}
 use Rattle.laws.specs.Unless.{unless}

@@ -1,5 +1,6 @@
 // A view of an update: a struct that holds a reference to the update's bytes, and thin functions that give its header fields, its sizes and
-// its data. Each takes the view apart and calls a function of a plain slice. A caller that wants the numbers by value calls `summary`.
+// its data, under the names that callers know. Each takes the view apart and calls a function of a plain slice. A caller that wants the
+// numbers by value calls `summary`.
 #![tactic(auto)]
 
 ghost use Rattle.std.specs.Prelude.{◌≡◌, length};

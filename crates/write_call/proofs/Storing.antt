@@ -1,5 +1,5 @@
 -- The storing step: from the marks beside the directory to the bytes of the outcome.
---   can_store       so it is after checks 1 to 8
+--   storing, planned_storable, can_store     so it is after checks 1 to 8
 --   entries_for     the arrays list updates of the store
 --   entries_fit     none is empty, and all end within 32 blocks
 --   emptied_entry   an update that is emptied by its number is emptied by its first block
@@ -32,16 +32,28 @@ use Rattle.write_outcome.specs.OutcomeBytes.{in_run, cleared_byte, outcome_byte,
 use Rattle.write_outcome.proofs.ByteLaws.{emptied_same, at_run, outcome_length}
 use Rattle.write_outcome.specs.EmptiedEntries.{marked, Entries}
 use Rattle.write_outcome.proofs.EmptiedEntries.{entries_of_lem, marked_at}
+use Rattle.write_plan.specs.Plan.{Plan, run}
 use Rattle.write_plan.specs.declared.Run.{Run}
 use Rattle.write_plan.specs.CandidateMarks.{shares_entry}
 use Rattle.write_plan.specs.RightMarks.{Marks}
-use Rattle.write_call.specs.Write.{touched_at, emptied_at, write_plan}
+use Rattle.write_call.specs.Write.{touched_at, emptied_at, good_plan, write_plan}
 use Rattle.write_call.specs.Planned.{plan_run}
-use Rattle.write_call.specs.Storing.{Storing}
+use Rattle.write_call.specs.Storing.{Storing, Storable}
 
 pub can_store : (old : List ℕ) (list : ProcessorList) (cand : List ℕ) (m : Marked) (r : Run) → Ok r ≡ write_plan old list cand → Marks old list cand m → Storing old cand m r.start
 can_store old list cand m r e y =
     let x = plan_run old list cand r.start r.emptied (sym e) in
+    record { ok = x.store; shared = y.shared; sizes = y.sizes; whole = x.whole; small = x.small; ends = x.ends }
+
+pub storing : (old cand : List ℕ) (m : Marked) (p : Plan) (start emptied : ℕ) → Storable old cand m p → p ≡ run start emptied → Storing old cand m start
+unfolding Storable
+storing old cand m p start emptied y h = y start emptied h
+
+pub planned_storable : (old : List ℕ) (list : ProcessorList) (cand : List ℕ) (p : Plan) (m : Marked) (k : ℕ) → good_plan old list cand k ≡ write_plan old list cand
+    → p ≡ good_plan old list cand k → Marks old list cand m → Storable old cand m p
+unfolding Storable
+planned_storable old list cand p m k e f y start emptied h =
+    let x = plan_run old list cand start emptied (sym e ∙ sym f ∙ h) in
     record { ok = x.store; shared = y.shared; sizes = y.sizes; whole = x.whole; small = x.small; ends = x.ends }
 
 -- a set of first blocks matters only at the updates that own a block outside the run

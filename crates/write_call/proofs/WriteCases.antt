@@ -1,6 +1,8 @@
 -- Check 9 and the bytes, by cases of the plan, as `search` takes them.
 --   answers         the answer of check 9
 --   left            the bytes of the store afterwards
+--   refuse_answer, refuse_bytes    those of a refusal
+--   planned_same, absent_same      of a plan, by its definition
 --   meant, meant_refused           the whole contract of the write, from a plan; from a refusal of checks 1 to 8
 --   meant_err, meant_other, meant_done    of what the write itself answers: a refusal of checks 1 to 8, of check 9, or none
 use Rattle.std.specs.Prelude.{ℕ, ◌≡◌, List, Ok, Err}
@@ -43,6 +45,26 @@ module _ (old cand : List ℕ) (back : ℕ) (r : Run) (v : ℕ) (f : v ≡ revis
 pub ruleset answers = (back_right, back_wrong)
 
 pub ruleset left = (bytes_written, bytes_kept)
+
+-- p is the plan, x the refusal
+module _ (old cand : List ℕ) (back : ℕ) (p : Plan) (x : Refusal) (h : p ≡ Err x) where
+  pub refuse_answer : (z : Answer) → z ≡ refused x → z ≡ answered old cand back p
+  unfolding answered
+  refuse_answer z q = rw h q
+
+  pub refuse_bytes : old ≡ bytes_after old cand back p
+  unfolding bytes_after
+  refuse_bytes = rw h
+
+-- g is the plan by its definition
+module _ (old cand : List ℕ) (back : ℕ) (r : Answer) (new : List ℕ) (p g : Plan) (e : p ≡ g) where
+  pub planned_same : r ≡ answered old cand back p → new ≡ bytes_after old cand back p → (r ≡ answered old cand back g) × (new ≡ bytes_after old cand back g)
+  planned_same a b = (a ∙ ap (answered old cand back) e, b ∙ ap (bytes_after old cand back) e)
+
+pub absent_same : (old cand : List ℕ) (back : ℕ) (r : Answer) (x : Refusal) (g : Plan) → Err x ≡ g → r ≡ refused x
+    → (r ≡ answered old cand back g) × (old ≡ bytes_after old cand back g)
+unfolding answered bytes_after
+absent_same old cand back r x g e h = planned_same old cand back r old (Err x) g e h refl
 
 module _ (old : List ℕ) (list : ProcessorList) (cand : List ℕ) (back : ℕ) (r : Answer) where
   -- p is the plan that a call made

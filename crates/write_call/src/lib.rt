@@ -21,7 +21,7 @@ use write_marks::Marked;
 use write_outcome::bytes;
 use write_plan::marks;
 
-// Checks 2 and 3 of a bad update have one refusal, check 4 another.
+// Checks 2 and 3 of a bad update have one refusal, check 4 another. No From: both types are of other crates.
 fn refusal_of(x: BadUpdate) -> Refusal
     ensures { result ≡ refusal_of x }
 {

@@ -10,7 +10,7 @@ use write_overlap::Stored;
 
 // The stored updates in the order of their starts: update i < count starts at a block, has a size in blocks, and two marks against the
 // candidate: it covers a processor that the candidate covers; it covers a listed processor that the candidate doesn't.
-// Not one array of structs: `starts` and `sizes` are the directory's as they stand, and the bytes of a write are lent them.
+// Not one array of structs: `starts` and `sizes` are the directory's as they stand, and `write_bytes` is lent them.
 #[derive(Clone, Copy)]
 pub struct Marked {
     pub starts: [u8; MOST_BLOCKS],

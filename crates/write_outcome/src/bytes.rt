@@ -38,7 +38,7 @@ fn empty_marked(
 
 // All the bytes of a write: the marked ones of the first `count` entries are emptied, and the candidate's `t` bytes stand at block `start`,
 // FFh behind them to the end of its last block.
-// The entries are lent as arrays: they are fields of the caller's, and a struct of them here would have to be copied together.
+// The entries are lent as the arrays and the count of the caller's marks, which stand in a crate above this one.
 #[tactic(auto, using(crate::proofs::EmptiedEntries::all_written), unfolding(update_sizes::specs::Sizes::blocks_of))]
 pub fn write_bytes(
     store: &mut [u8],

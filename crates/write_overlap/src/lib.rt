@@ -1,4 +1,5 @@
-// One stored update against a run of blocks. `k` is the number of blocks that the candidate takes, `s` a start block.
+// One stored update against a run of blocks. `k` is the number of blocks that the candidate takes, `s` a start block: two plain numbers, as the
+// definitions take them.
 #![tactic(auto)]
 
 ghost use Rattle.std.specs.Prelude.{◌≡◌};

@@ -1,0 +1,2 @@
+-- The board's calls.
+pub mod LoadAx
