@@ -112,7 +112,7 @@ fn make(
 
 // The step of opcode 2. No bytes follow it.
 #[tactic(auto, using(crate::specs::RunStateLaws::kept_within))]
-pub fn fill_step<R: Read>(
+pub(crate) fn fill_step<R: Read>(
     reader: &mut R,
     s: State,
     memory: &mut Memory,
@@ -136,7 +136,11 @@ pub fn fill_step<R: Read>(
 
 // The step of opcode 3.
 #[tactic(auto, using(crate::specs::RunStateLaws::kept_within))]
-pub fn put_step<R: Read>(reader: &mut R, s: State, memory: &mut Memory) -> io::Result<Option<State>>
+pub(crate) fn put_step<R: Read>(
+    reader: &mut R,
+    s: State,
+    memory: &mut Memory,
+) -> io::Result<Option<State>>
     requires { Within s }
     ensures { IfOk result Kept }
 {

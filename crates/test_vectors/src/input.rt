@@ -12,7 +12,7 @@ pub fn read_all<R: Read>(reader: &mut R, buf: &mut [u8]) -> io::Result<bool> {
 }
 
 // The next N bytes, or none where the input ends before.
-pub fn read_array<const N: usize, R: Read>(reader: &mut R) -> io::Result<Option<[u8; N]>> {
+pub(crate) fn read_array<const N: usize, R: Read>(reader: &mut R) -> io::Result<Option<[u8; N]>> {
     let mut b = [0u8; N];
     let whole = read_all(reader, &mut b)?;
     Ok(whole.then_some(b))
