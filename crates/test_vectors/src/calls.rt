@@ -161,7 +161,9 @@ pub fn call<P: Print, R: Read>(
     memory: &mut Memory,
 ) -> io::Result<Option<State>>
     requires { Within s }
-    ensures { IfOk result Kept }
+    ensures within { IfOk result Kept }
+    ensures keeps { (memory.new.candidate ≡ memory.old.candidate) × (memory.new.signatures ≡ memory.old.signatures)
+        × (memory.new.platforms ≡ memory.old.platforms) × (memory.new.index ≡ memory.old.index) }
 {
     let Some(b) = input::read_array::<21, R>(reader)? else {
         return Ok(None);

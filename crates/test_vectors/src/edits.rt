@@ -118,7 +118,9 @@ pub(crate) fn fill_step<R: Read>(
     memory: &mut Memory,
 ) -> io::Result<Option<State>>
     requires { Within s }
-    ensures { IfOk result Kept }
+    ensures within { IfOk result Kept }
+    ensures keeps { (memory.new.signatures ≡ memory.old.signatures) × (memory.new.platforms ≡ memory.old.platforms)
+        × (memory.new.index ≡ memory.old.index) }
 {
     let bytes = [0u8; FOLLOWING];
     let Some(b) = input::read_array::<10, R>(reader)? else {
@@ -142,7 +144,9 @@ pub(crate) fn put_step<R: Read>(
     memory: &mut Memory,
 ) -> io::Result<Option<State>>
     requires { Within s }
-    ensures { IfOk result Kept }
+    ensures within { IfOk result Kept }
+    ensures keeps { (memory.new.signatures ≡ memory.old.signatures) × (memory.new.platforms ≡ memory.old.platforms)
+        × (memory.new.index ≡ memory.old.index) }
 {
     let mut bytes = [0u8; FOLLOWING];
     let Some(e) = read_put(reader, &mut bytes)? else {

@@ -134,7 +134,10 @@ fn set_number(index: &mut Index, p: PutOperands)
 
 pub fn make<P: Print>(out: &P, s: State, memory: &mut Memory) -> io::Result<Option<State>>
     requires { Within s }
-    ensures { IfOk result Kept }
+    ensures within { IfOk result Kept }
+    ensures keeps { (memory.new.store ≡ memory.old.store) × (memory.new.candidate ≡ memory.old.candidate)
+        × (memory.new.destination ≡ memory.old.destination) × (memory.new.signatures ≡ memory.old.signatures)
+        × (memory.new.platforms ≡ memory.old.platforms) }
 {
     let line = make_with(s, &memory.store, &memory.destination, &mut memory.index);
     lines::write_index(out, line)?;
@@ -148,7 +151,10 @@ pub fn after<P: Print, R: Read>(
     memory: &mut Memory,
 ) -> io::Result<Option<State>>
     requires { Within s }
-    ensures { IfOk result Kept }
+    ensures within { IfOk result Kept }
+    ensures keeps { (memory.new.store ≡ memory.old.store) × (memory.new.candidate ≡ memory.old.candidate)
+        × (memory.new.destination ≡ memory.old.destination) × (memory.new.signatures ≡ memory.old.signatures)
+        × (memory.new.platforms ≡ memory.old.platforms) }
 {
     let Some(b) = input::read_array::<16, R>(reader)? else {
         return Ok(None);
@@ -166,7 +172,10 @@ pub fn after<P: Print, R: Read>(
 
 pub fn put<R: Read>(reader: &mut R, s: State, memory: &mut Memory) -> io::Result<Option<State>>
     requires { Within s }
-    ensures { IfOk result Kept }
+    ensures within { IfOk result Kept }
+    ensures keeps { (memory.new.store ≡ memory.old.store) × (memory.new.candidate ≡ memory.old.candidate)
+        × (memory.new.destination ≡ memory.old.destination) × (memory.new.signatures ≡ memory.old.signatures)
+        × (memory.new.platforms ≡ memory.old.platforms) }
 {
     let Some(b) = input::read_array::<5, R>(reader)? else {
         return Ok(None);

@@ -49,7 +49,9 @@ fn with_lengths(s: State, signatures: u8, platforms: u8) -> Option<State>
 #[tactic(auto, using(crate::specs::RunStateLaws::kept_within))]
 pub fn list<R: Read>(reader: &mut R, s: State, memory: &mut Memory) -> io::Result<Option<State>>
     requires { Within s }
-    ensures { IfOk result Kept }
+    ensures within { IfOk result Kept }
+    ensures keeps { (memory.new.store ≡ memory.old.store) × (memory.new.candidate ≡ memory.old.candidate)
+        × (memory.new.destination ≡ memory.old.destination) × (memory.new.index ≡ memory.old.index) }
 {
     let Some(m) = input::read_byte(reader)? else {
         return Ok(None);
