@@ -5,3 +5,4 @@ pub mod Refusals
 pub mod Choice
 pub mod AnswerLaws
 pub mod RefusalLaws
+pub mod RefusalCodes

@@ -12,7 +12,9 @@ use Rattle.update_verdict.specs.Verdict.{Good, verdict}
 use Rattle.update_coverage.specs.Covers.{covers}
 use Rattle.write_marks.specs.StoredUpdates.{StoredUpdates}
 use Rattle.write_placement.specs.Choose.{choose}
-use Rattle.call_answers.specs.Codes.{invalid_header, invalid_header_cs}
+use Rattle.call_answers.specs.Codes.{storage_full, invalid_header, invalid_header_cs, no_run}
+use Rattle.call_answers.specs.Answers.{refusal}
+use Rattle.call_answers.specs.Refusals.{refused}
 use Rattle.call_answers.specs.declared.refusal.Refusal.TheVariants.{NoRun}
 use Rattle.write_plan.specs.Plan.{Plan, run, placed}
 use Rattle.write_plan.specs.VerdictCode.{verdict_ah}
@@ -82,4 +84,4 @@ pub record Starred : Type 0 where
   pub t_32772 : (d n : ℕ) → Code d 32772 n invalid_header
   pub stale_then_three_unused : answer 4 2 stale_first ≡ run 1 0
   pub stale_of_two_stale_of_one_unused : answer 4 2 two_stale ≡ run 0 1
-  pub needed_stale_needed_stale : answer 4 2 alternating ≡ Err NoRun
+  pub needed_stale_needed_stale : (answer 4 2 alternating ≡ Err NoRun) × (refused NoRun ≡ refusal storage_full no_run)

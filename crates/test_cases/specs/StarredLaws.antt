@@ -113,7 +113,7 @@ starred =
       t_32772 = λ d n. sizes_code d 32772 n (sym (too_long d 32772 n (omega arith)));
       stale_then_three_unused = refl;
       stale_of_two_stale_of_one_unused = refl;
-      needed_stale_needed_stale = refl;
+      needed_stale_needed_stale = (refl, refl);
     }
 
 -- in a buffer of zeros
