@@ -4,6 +4,7 @@
 --   update_of   update i of a `Marked`
 --   both_at     both marks of two arrays
 --   both_marks_is, shared_marks    so they stand for the marks of the updates
+--   updates_of      the updates of any lists, up to any count; ListedMarks (proofs/) has the same laws of these
 use Rattle.std.specs.Prelude.{ℕ, ◌≤◌, ◌≡◌, Bool, false, ◌&&◌, List, get_or}
 use Rattle.laws.specs.Below.{any_below}
 use Rattle.laws.specs.Arrays.{mark_at}
@@ -34,3 +35,7 @@ both_marks_is m t e = e
 pub shared_marks : (m : Marked) (v : ℕ) → v ≡ count_below m.count (mark_at m.shares) → v ≡ count_below m.count (stored_of m).shares
 unfolding stored_of mark_at
 shared_marks m v e = e
+
+-- update i is entry i of each list; the count may be any
+abbrev pub updates_of : List ℕ → List ℕ → List Bool → List Bool → ℕ → StoredUpdates
+updates_of starts sizes shares needed count = record { count = count; start = λ i. get_or starts i 0; size = λ i. get_or sizes i 0; shares = λ i. get_or shares i false; needed = λ i. get_or needed i false }

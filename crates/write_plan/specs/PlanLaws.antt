@@ -1,4 +1,5 @@
 -- Checks 7 and 8 as the code takes them.
+--   none_placed, some_placed    check 8 of any stored updates, by cases of the choice; both_planned, rest_planned: checks 7 and 8 of them
 --   placing    check 8, by cases of the choice; the emptied count is at most 64, so the code's sum can't overflow
 --   placed_same    it goes by the starts, sizes and marks alone
 --   planning    checks 7 and 8, a return at each
@@ -40,19 +41,38 @@ choice_nowhere : (q : Pick) → choice_of q ≡ None → q ≡ nowhere
 choice_nowhere nowhere e = refl
 choice_nowhere (at s c) e = absurd (impossible (cc))
 
+-- of any stored updates: r is the choice, v how many share
+module _ (h : StoredUpdates) (n k : ℕ) (r : Option Place) (e : r ≡ choice_of (choose n k h)) where
+  pub none_placed : r ≡ None → Err NoRun ≡ placed h (choose n k h)
+  unfolding placed
+  none_placed q = rw (choice_nowhere (choose n k h) (sym e ∙ q))
+
+  pub some_placed : (p : Place) (v : ℕ) → r ≡ Some p → v ≡ count_below h.count h.shares → run p.start (v + p.touched) ≡ placed h (choose n k h)
+  unfolding placed
+  some_placed p v q f = rw (choice_at (choose n k h) p (sym e ∙ q), f)
+
+-- of any stored updates: t says whether one has both marks
+module _ (h : StoredUpdates) (n k : ℕ) (t : Bool) (g : t ≡ any_below h.count (both_marks h)) where
+  pub both_planned : t ≡ true → Err SharingNeeded ≡ marked_plan n h k
+  unfolding unless
+  both_planned q = rw (← g, q)
+
+  pub rest_planned : (z : Plan) → t ≡ false → z ≡ placed h (choose n k h) → z ≡ marked_plan n h k
+  unfolding unless
+  rest_planned z q p = rw (← g, q) p
+
 -- r is what `choose_run` answered, v how many share
 module _ (m : Marked) (n k : ℕ) (r : Option Place) (e : r ≡ choice_of (choose n k (stored_of m))) where
   pub place_none : r ≡ None → Err NoRun ≡ placed (stored_of m) (choose n k (stored_of m))
-  unfolding placed
-  place_none h = rw (choice_nowhere (choose n k (stored_of m)) (sym e ∙ h))
+  place_none h = none_placed (stored_of m) n k r e h
 
   module _ (p : Place) (v : ℕ) (h : r ≡ Some p) (f : v ≡ count_below m.count (mark_at m.shares)) where
     g : v ≡ count_below m.count (stored_of m).shares
     g = shared_marks m v f
 
     pub place_some : run p.start (v + p.touched) ≡ placed (stored_of m) (choose n k (stored_of m))
-    unfolding placed stored_of
-    place_some = rw (choice_at (choose n k (stored_of m)) p (sym e ∙ h), g)
+    unfolding stored_of
+    place_some = some_placed (stored_of m) n k r e p v h g
 
     pub place_few : v + p.touched ≤ 64
     unfolding stored_of
@@ -72,11 +92,9 @@ module _ (m : Marked) (n k : ℕ) (t : Bool) (g : t ≡ any_below m.count (both_
   both_is = both_marks_is m t g
 
   pub marked_both : t ≡ true → Err SharingNeeded ≡ marked_plan n (stored_of m) k
-  unfolding unless
-  marked_both h = rw (← both_is, h)
+  marked_both h = both_planned (stored_of m) n k t both_is h
 
   pub marked_placed : (z : Plan) → t ≡ false → z ≡ placed (stored_of m) (choose n k (stored_of m)) → z ≡ marked_plan n (stored_of m) k
-  unfolding unless
-  marked_placed z h q = rw (← both_is, h) q
+  marked_placed z h q = rest_planned (stored_of m) n k t both_is z h q
 
 pub ruleset planning = (marked_both, marked_placed)
