@@ -155,7 +155,14 @@ trouble=$(awk '
         else parts[address] = 1
     }
     function slice_after(word) { gsub(word " [{] ptr +i64 [}]", word " slice") }
-    { line = $0; gsub(/"[^"]*"/, "name"); gsub(/[,()]/, " "); gsub(/[{]( +i(8|16|32))+ +[}]/, "numbers") }
+    # The name of a function or a global is no type, whatever it says in its quotes. Any other name stands.
+    {
+        line = $0
+        n = split($0, part, "\"")
+        $0 = part[1]
+        for (i = 2; i <= n; i++) $0 = $0 (i % 2 ? part[i] : ($0 ~ /@$/ ? "name" : "\"" part[i] "\""))
+    }
+    { gsub(/[,()]/, " "); gsub(/[{]( +i(8|16|32))+ +[}]/, "numbers") }
     { slice_after("ret"); slice_after("extractvalue"); slice_after("insertvalue") }
     { gsub(/[{] ptr +i64 [}] @/, "slice @") }
     /ptrtoint|inttoptr|addrspacecast/ { refuse("a pointer becomes a number") }
