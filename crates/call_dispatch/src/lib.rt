@@ -10,8 +10,16 @@ use call_answers::answer::{Answer, Reply};
 use call_answers::refusal::Refusal;
 use call_reads::{presence, read};
 
-// The function of the update calls.
-const FUNCTION: u32 = 0xD042;
+// The function of the update calls, and its sub-functions.
+pub const FUNCTION: u32 = 0xD042;
+
+pub const PRESENCE: u32 = 0;
+
+pub const WRITE: u32 = 1;
+
+pub const CONTROL: u32 = 2;
+
+pub const READ: u32 = 3;
 
 #[derive(Clone, Copy)]
 pub enum SubFunction {
@@ -28,10 +36,10 @@ impl TryFrom<u32> for SubFunction {
 
     fn try_from(number: u32) -> Result<Self, Refusal> {
         match number {
-            0 => Ok(SubFunction::Presence),
-            1 => Ok(SubFunction::Write),
-            2 => Ok(SubFunction::Control),
-            3 => Ok(SubFunction::Read),
+            PRESENCE => Ok(SubFunction::Presence),
+            WRITE => Ok(SubFunction::Write),
+            CONTROL => Ok(SubFunction::Control),
+            READ => Ok(SubFunction::Read),
             _ => Err(Refusal::NotImplemented),
         }
     }
