@@ -56,7 +56,8 @@ pub fn outdated(store: &[u8], d: Directory, candidate: &[u8], pairs: Pairs) -> b
     ensures { result ≡ outdated store.now candidate.now }
 {
     let new = fields::revision(candidate);
-    for i in 0..d.count {
+    let mut found = false;
+    'scan: for i in 0..d.count {
         let u = store_blocks::from_start(store, d.starts[i]);
         if fields::revision(u) < new {
             continue;
@@ -67,10 +68,11 @@ pub fn outdated(store: &[u8], d: Directory, candidate: &[u8], pairs: Pairs) -> b
             let f = update_coverage::platforms_at(u, p, j);
             for k in 0..pairs.count {
                 if update_sharing::shares_at(x, f, candidate, pairs, k) {
-                    return true;
+                    found = true;
+                    break 'scan;
                 }
             }
         }
     }
-    false
+    found
 }
